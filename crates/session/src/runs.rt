@@ -1,0 +1,85 @@
+ghost use mathlib.Core.Path.{_≡_};
+ghost use lib.ListN.{replicate};
+ghost use Rattle.rules.specs.Securities.{unlisted};
+ghost use Rattle.session.specs.Runs.{listing-text, after-run, Closed, Played, Unless-memory};
+ghost use Rattle.std.specs.Of.String.{string-bytes};
+ghost use Rattle.std.specs.Vec.{made};
+ghost use Rattle.text.specs.Readings.{reading};
+use crate::faults::Fault;
+use crate::faults::FaultFromAlloc;
+use crate::faults::FaultFromRead;
+use crate::sessions::Session;
+use std::alloc::AllocError;
+use std::alloc::Global;
+use text::faults::ReadFault;
+use text::listing::write_fault;
+use text::listing::write_outcome;
+use text::reader::Reader;
+use text::reading::check_length;
+
+/// How many places the program's table and page have.
+pub const PLACES: usize = 256;
+
+/// What a script came to: the session after it, and its listing.
+#[derive(Drop)]
+pub struct Transcript {
+    pub session: Session,
+    pub listing: String,
+}
+
+/// The listing of a script that is run on a new book.
+pub fn listing_of(heap: Global, script: &[u8]) -> Result<String, AllocError>
+    ensures { λ r. ⌜ made r (λ t. string-bytes t ≡ listing-text (replicate 64 unlisted) (reading (now (script .entry)))) ⌝ }
+{
+    let session = Session::open(heap, PLACES)?;
+    let transcript = session.run(heap, script)?;
+    Ok(transcript.listing)
+}
+
+/// Closes a listing by the fault that ended the script, if one did.
+fn close(listing: &mut String, heap: Global, ended: Result<(), Fault>) -> Result<(), AllocError>
+    ensures { λ r. ⌜ made r (λ _. Closed ended (string-bytes (now (listing .entry))) (string-bytes (now (listing .exit)))) ⌝ }
+{
+    match ended {
+        Ok(()) => Ok(()),
+        Err(Fault::Script { cause, line }) => write_fault(
+            listing,
+            heap,
+            &ReadFault { cause, line },
+        ),
+        Err(Fault::Memory) => Err(AllocError),
+    }
+}
+
+impl Session {
+    /// Runs a script: makes its calls, up to its end or its first fault, and writes its listing.
+    pub fn run(mut self, heap: Global, script: &[u8]) -> Result<Transcript, AllocError>
+        ensures listing { λ r. ⌜ made r (λ t. string-bytes (t .listing) ≡ listing-text (self .book .securities) (reading (now (script .entry)))) ⌝ }
+        ensures book { λ r. ⌜ made r (λ t. t .session .book .securities ≡ after-run (self .book .securities) (reading (now (script .entry)))) ⌝ }
+        ensures table { λ r. ⌜ made r (λ t. t .session .table ≡ self .table) ⌝ }
+        ensures page { λ r. ⌜ made r (λ t. t .session .page ≡ self .page) ⌝ }
+    {
+        let mut listing = String::new(heap);
+        let ended = self.play(heap, script, &mut listing);
+        close(&mut listing, heap, ended)?;
+        Ok(Transcript {
+            session: self,
+            listing,
+        })
+    }
+
+    /// Makes the calls of a script, and appends what each came to.
+    fn play(&mut self, heap: Global, script: &[u8], listing: &mut String) -> Result<(), Fault>
+        ensures played { λ r. ⌜ Unless-memory r (Played (reading (now (script .entry))) (now (self .entry) .book .securities) (string-bytes (now (listing .entry))) (now (self .exit) .book .securities) (string-bytes (now (listing .exit))) r) ⌝ }
+        ensures table { λ _. ⌜ now (self .exit) .table ≡ now (self .entry) .table ⌝ }
+        ensures page { λ _. ⌜ now (self .exit) .page ≡ now (self .entry) .page ⌝ }
+    {
+        check_length(script)?;
+        let mut reader = Reader::new(script);
+        while let Some(call) = reader.next_call()? {
+            let outcome = self.call(call);
+            write_outcome(listing, heap, &call, &outcome)?;
+        }
+        Ok(())
+    }
+}
