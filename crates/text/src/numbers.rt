@@ -1,6 +1,9 @@
 ghost use mathlib.Core.Path.{_≡_};
 ghost use Rattle.text.specs.Numbers.{number-of};
 
+/// The largest number that a script can carry.
+const LARGEST: u64 = 4_294_967_295;
+
 /// The number that the bytes write in decimal: digits alone, no leading zero, at most 4,294,967,295.
 pub fn number(value: &[u8]) -> Option<u32>
     ensures { λ r. ⌜ r ≡ number-of (now (value .entry)) ⌝ }
@@ -17,7 +20,7 @@ pub fn number(value: &[u8]) -> Option<u32>
             return None;
         }
         n = n * 10 + (*b - b'0') as u64;
-        if n > 4_294_967_295 {
+        if n > LARGEST {
             return None;
         }
     }

@@ -13,17 +13,17 @@ returns-then-b-lt48 c =
     let no-digit : (getD s i 0 < 48) ⊎ (57 < getD s i 0) = elim (c .then-b-lt48 .came) [ then-b-lt48·by·then-b-lt48 w ↦ inl (w .if-b-lt48 .taken) | then-b-lt48·by·else-b-lt48·then-b-gt57 w ↦ inr (w .if-b-gt57 .taken) ] in
     sym (c .loop-b .inv .1 ∙ stops s i (c .loop-b .n) (c .loop-b-test .taken) no-digit)
 
-pub returns-then-n-gt4294967295 : need.returns-then-n-gt4294967295
-returns-then-n-gt4294967295 c =
+pub returns-then-n-gt-LARGEST : need.returns-then-n-gt-LARGEST
+returns-then-n-gt-LARGEST c =
     let s = c .args .value .now in
     let i = c .loop-b .b-index in
-    sym (c .loop-b .inv .1 ∙ next s i (c .loop-b .n) (c .loop-b-test .taken) (c .if-b-lt48 .left) (c .if-b-gt57 .left) ∙ within-over _ (drop (i + 1) s) (c .if-n-gt4294967295 .taken))
+    sym (c .loop-b .inv .1 ∙ next s i (c .loop-b .n) (c .loop-b-test .taken) (c .if-b-lt48 .left) (c .if-b-gt57 .left) ∙ within-over _ (drop (i + 1) s) (c .if-n-gt-LARGEST .taken))
 
 pub loop-b-again : need.loop-b-again
 loop-b-again c =
     let s = c .args .value .now in
     let i = c .loop-b .b-index in
-    (c .if-n-gt4294967295 .left, c .loop-b .inv .1 ∙ next s i (c .loop-b .n) (c .loop-b-test .taken) (c .if-b-lt48 .left) (c .if-b-gt57 .left))
+    (c .if-n-gt-LARGEST .left, c .loop-b .inv .1 ∙ next s i (c .loop-b .n) (c .loop-b-test .taken) (c .if-b-lt48 .left) (c .if-b-gt57 .left))
 
 pub returns : need.returns
 returns c = sym (c .loop-b .inv .1 ∙ ends (c .args .value .now) (c .loop-b .b-index) (c .loop-b .n) (c .loop-b-test .left) (c .loop-b .inv .0))
