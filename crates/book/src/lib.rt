@@ -3,7 +3,7 @@ ghost use lib.Dec.{ltb};
 ghost use lib.ListN.{replicate};
 ghost use mathlib.Core.Bool.{cond};
 ghost use mathlib.Core.Path.{_≡_};
-ghost use Rattle.book.specs.Lists.{list-answer, list-after};
+ghost use Rattle.book.specs.ListCall.{list-answer, list-after};
 ghost use Rattle.rules.specs.Securities.{unlisted};
 ghost use Rattle.rules.specs.declared.refusals.Refusal.the-variants.{Listing};
 ghost use Rattle.std.specs.declared.result.Result.the-variants.{Ok, Err};

@@ -10,7 +10,8 @@ use Rattle.text.specs.Readings.{Reading, end, fault, call}
 use Rattle.session.specs.declared.faults.Fault.{Fault}
 use Rattle.session.specs.declared.faults.Fault.the-variants.{Script, Memory}
 use Rattle.session.specs.Calls.{call-answer, call-after}
-use Rattle.session.specs.Runs.{outcomes, listing-text, ending, after-run, Closed, Played, Unless-memory}
+use Rattle.session.specs.Plays.{outcomes, ending, Played, Unless-memory, Closed}
+use Rattle.session.specs.Runs.{listing-text, after-run}
 
 abbrev closing : Result (Unit {0}) Fault → List ℕ
 closing (Ok u) = []

@@ -10,7 +10,8 @@ use Rattle.rules.specs.declared.securities.Security.{Security}
 use Rattle.text.specs.Listings.{outcome-text}
 use Rattle.text.specs.Readings.{Reading, call}
 use Rattle.session.specs.Calls.{call-answer, call-after}
-use Rattle.session.specs.Runs.{outcomes, ending, after-run}
+use Rattle.session.specs.Plays.{outcomes, ending}
+use Rattle.session.specs.Runs.{after-run}
 
 -- from where the run began to where it is now
 pub record Underway (reading : Reading) (before : List Security) (text : List ℕ) (rest : Reading) (now : List Security) (text-now : List ℕ) : Type 0 where

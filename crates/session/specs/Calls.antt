@@ -8,7 +8,7 @@ use Rattle.rules.specs.declared.calls.Call.{Call}
 use Rattle.rules.specs.declared.calls.Call.the-variants.{List as list-call}
 use Rattle.rules.specs.declared.refusals.Refusal.{Refusal}
 use Rattle.rules.specs.declared.securities.Security.{Security}
-use Rattle.book.specs.Lists.{list-answer, list-after}
+use Rattle.book.specs.ListCall.{list-answer, list-after}
 
 -- the book's refusal passes unchanged
 abbrev pub listed-answer : Result (Unit {0}) Refusal → Result Answer Refusal

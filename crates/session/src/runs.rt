@@ -1,7 +1,8 @@
 ghost use mathlib.Core.Path.{_≡_};
 ghost use lib.ListN.{replicate};
 ghost use Rattle.rules.specs.Securities.{unlisted};
-ghost use Rattle.session.specs.Runs.{listing-text, after-run, Closed, Played, Unless-memory};
+ghost use Rattle.session.specs.Plays.{Played, Unless-memory, Closed};
+ghost use Rattle.session.specs.Runs.{listing-text, after-run};
 ghost use Rattle.std.specs.Of.String.{string-bytes};
 ghost use Rattle.std.specs.Vec.{made};
 ghost use Rattle.text.specs.Readings.{reading};

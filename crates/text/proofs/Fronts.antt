@@ -9,7 +9,7 @@ use Rattle.std.proofs.shelf.Tests.{eq-eqb, eqb-true}
 use Rattle.std.specs.declared.option.Option.{Option}
 use Rattle.std.specs.declared.option.Option.the-variants.{Some, None}
 use Rattle.std.specs.Options.{Cases, mapped}
-use Rattle.text.specs.Lines.{behind}
+use Rattle.text.specs.Keys.{behind}
 
 behind-front : (front rest : List ℕ) → behind front (front ++ rest) ≡ Some rest
 behind-front [] rest = refl

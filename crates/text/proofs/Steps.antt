@@ -1,17 +1,23 @@
 -- One step of the reader. `r` is the rest of the script s from `at` on, behind line n.
-use mathlib.Core.Path.{_≡_, refl, ap, sym, subst, _∙_}
+use mathlib.Core.Path.{_≡_, refl, ap, sym, _∙_}
 use mathlib.Core.Bool.{Bool, true, false, cond}
-use mathlib.Core.List.{List, [], _∷_, _++_}
-use Prim.Native.Nat.{ℕ, _+_, _-_, _<_, _≤_}
+use mathlib.Core.List.{List, [], _∷_}
+use Prim.Native.Nat.{ℕ, _+_, _-_, _<_}
 use native.Mathlib.Omega.{arith}
+use denote.Ref.{now}
+use lib.Chars.{codes}
 use lib.Dec.{eqb}
 use lib.ListN.{length, take, drop}
-use Rattle.std.proofs.shelf.Lists.{drop-drop, nil-from-length}
+use Rattle.std.proofs.shelf.Lists.{drop-drop, length-drop, nil-from-length}
 use Rattle.std.specs.declared.option.Option.the-variants.{Some, None}
 use Rattle.text.specs.declared.faults.Cause.the-variants.{Unfinished}
-use Rattle.text.specs.Lines.{Line, grown, lines, unended, cut, behind}
-use Rattle.text.specs.Grammar.{Form}
-use Rattle.text.specs.Readings.{Due, asked, read, keyed, faulty, end}
+use Rattle.text.specs.Keys.{behind}
+use Rattle.text.specs.Lines.{Line, grown, lines, unended, cut}
+use Rattle.text.specs.declared.reader.Reader.{Reader}
+use Rattle.text.specs.Grammar.{Form, ask, form-of}
+use Rattle.text.specs.Progress.{to-read}
+use Rattle.text.specs.Steps.{onward-from}
+use Rattle.text.specs.Readings.{Due, start, asked, read, keyed, faulty, end}
 
 unended-read : (n : ℕ) (due : Due) (r : List ℕ) → (length r ≡ 0 → ⊥) → read (unended r) n due ≡ faulty Unfinished (n + 1)
 unended-read n due [] some = absurd (some refl)
@@ -37,7 +43,7 @@ module _ (s r : List ℕ) (at n : ℕ) (rest : r ≡ drop at s) where
       ap (λ (t : List ℕ). read (lines t) n due) (sym rest) ∙ ap (λ (ls : List Line). read ls n due) ends ∙ unended-read n due r some
 
 -- where something is left, it makes no difference that no call has begun
-pub begun : (n : ℕ) (s : List ℕ) → 0 < length s → (front : List ℕ) (next : List ℕ → Form) → read (lines s) n (record { front = front; next = next; inside = false }) ≡ read (lines s) n (asked front next)
+begun : (n : ℕ) (s : List ℕ) → 0 < length s → (front : List ℕ) (next : List ℕ → Form) → read (lines s) n (record { front = front; next = next; inside = false }) ≡ read (lines s) n (asked front next)
 begun n [] h front next = absurd (omega arith)
 begun n (c ∷ cs) h front next = by (eqb c 10) (lines cs)
   where
@@ -46,3 +52,8 @@ begun n (c ∷ cs) h front next = by (eqb c 10) (lines cs)
     by true ls = refl
     by false [] = refl
     by false (l ∷ ls) = refl
+
+pub started : (x : Reader) → x .at < length (now (x .text)) → to-read x start ≡ onward-from x (ask (codes "call=") form-of)
+started x more =
+    let some : 0 < length (drop (x .at) (now (x .text))) = omega (arith, length-drop (x .at) (now (x .text))) in
+    begun (x .line) (drop (x .at) (now (x .text))) some (codes "call=") form-of

@@ -1,8 +1,10 @@
 pub mod Faults
 pub mod Lines
+pub mod Keys
 pub mod Names
 pub mod Numbers
 pub mod Grammar
 pub mod Readings
 pub mod Progress
+pub mod Steps
 pub mod Listings

@@ -28,9 +28,3 @@ unended (c ∷ cs) = record { text = c ∷ cs; ended = false } ∷ []
 abbrev pub cut : Option ℕ → List ℕ → List Line
 cut None text = unended text
 cut (Some i) text = record { text = take i text; ended = true } ∷ lines (drop (i + 1) text)
-
--- what stands behind a front, where the text begins with it
-abbrev pub behind : List ℕ → List ℕ → Option (List ℕ)
-behind [] text = Some text
-behind (f ∷ fs) [] = None
-behind (f ∷ fs) (c ∷ cs) = cond (eqb f c) (behind fs cs) None

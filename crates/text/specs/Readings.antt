@@ -2,10 +2,9 @@
 use mathlib.Core.Bool.{Bool, true, false, cond}
 use mathlib.Core.List.{List, [], _∷_}
 use Prim.Native.Nat.{ℕ, _+_}
-use denote.Ref.{now}
 use lib.Chars.{codes}
 use lib.Dec.{ltb}
-use lib.ListN.{length, drop}
+use lib.ListN.{length}
 use Rattle.std.specs.declared.option.Option.{Option}
 use Rattle.std.specs.declared.option.Option.the-variants.{Some, None}
 use Rattle.std.specs.declared.result.Result.{Result}
@@ -14,7 +13,8 @@ use Rattle.rules.specs.declared.calls.Call.{Call}
 use Rattle.text.specs.declared.faults.Cause.{Cause}
 use Rattle.text.specs.declared.faults.Cause.the-variants.{TooLong, Key, Unfinished}
 use Rattle.text.specs.declared.faults.ReadFault.{ReadFault}
-use Rattle.text.specs.Lines.{Line, lines, behind}
+use Rattle.text.specs.Keys.{behind}
+use Rattle.text.specs.Lines.{Line, lines}
 use Rattle.text.specs.Grammar.{Form, done, wrong, ask, form-of}
 
 pub data Reading : Type 0 where

@@ -7,8 +7,9 @@ ghost use Rattle.std.specs.Slices.{found};
 ghost use Rattle.std.specs.Vec.{made};
 ghost use Rattle.text.specs.Grammar.{Form, done, ask, number-then, form-of, list-form};
 ghost use Rattle.text.specs.Lines.{lines};
-ghost use Rattle.text.specs.Progress.{to-read, onward-from, went, lined, followed-by, left, Advanced};
+ghost use Rattle.text.specs.Progress.{to-read, followed-by, left};
 ghost use Rattle.text.specs.Readings.{start, read, length-check};
+ghost use Rattle.text.specs.Steps.{onward-from, went, lined, Advanced};
 use crate::faults::Cause;
 use crate::faults::ReadFault;
 use crate::lines::line_end;
@@ -124,6 +125,7 @@ impl<'a> Reader<'a> {
         }
     }
 
+    /// The keys of list.
     fn list(&mut self) -> Result<Call, ReadFault>
         ensures reads { λ r. ⌜ onward-from (now (self .entry)) list-form ≡ went r done (now (self .exit)) ⌝ }
         ensures advanced { λ r. ⌜ Advanced r (now (self .entry)) (now (self .exit)) ⌝ }
