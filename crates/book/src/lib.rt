@@ -1,10 +1,9 @@
 //! The book: what it keeps of 64 securities, and the calls on it.
 ghost use lib.Dec.{ltb};
-ghost use lib.ListN.{replicate};
 ghost use mathlib.Core.Bool.{cond};
 ghost use mathlib.Core.Path.{_≡_};
 ghost use Rattle.book.specs.ListCall.{list-answer, list-after};
-ghost use Rattle.rules.specs.Securities.{unlisted};
+ghost use Rattle.rules.specs.Securities.{none-listed};
 ghost use Rattle.rules.specs.declared.refusals.Refusal.the-variants.{Listing};
 ghost use Rattle.std.specs.declared.result.Result.the-variants.{Ok, Err};
 use rules::refusals::Refusal;
@@ -33,7 +32,7 @@ pub struct Book {
 impl Book {
     /// A new book, on which nothing is listed.
     pub fn open() -> Book
-        ensures { λ r. ⌜ r .securities ≡ replicate 64 unlisted ⌝ }
+        ensures { λ r. ⌜ r .securities ≡ none-listed ⌝ }
     {
         Book {
             securities: [Security::UNLISTED; SECURITIES],

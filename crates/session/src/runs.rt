@@ -1,6 +1,5 @@
 ghost use mathlib.Core.Path.{_≡_};
-ghost use lib.ListN.{replicate};
-ghost use Rattle.rules.specs.Securities.{unlisted};
+ghost use Rattle.rules.specs.Securities.{none-listed};
 ghost use Rattle.session.specs.Plays.{Played, Unless-memory, Closed};
 ghost use Rattle.session.specs.Runs.{listing-text, after-run};
 ghost use Rattle.std.specs.Of.String.{string-bytes};
@@ -30,7 +29,7 @@ pub struct Transcript {
 
 /// The listing of a script that is run on a new book.
 pub fn listing_of(heap: Global, script: &[u8]) -> Result<String, AllocError>
-    ensures { λ r. ⌜ made r (λ t. string-bytes t ≡ listing-text (replicate 64 unlisted) (reading (now (script .entry)))) ⌝ }
+    ensures { λ r. ⌜ made r (λ t. string-bytes t ≡ listing-text none-listed (reading (now (script .entry)))) ⌝ }
 {
     let session = Session::open(heap, PLACES)?;
     let transcript = session.run(heap, script)?;

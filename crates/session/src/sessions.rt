@@ -1,7 +1,7 @@
 ghost use lib.ListN.{replicate};
 ghost use mathlib.Core.Path.{_≡_};
 ghost use Rattle.rules.specs.Blanks.{blank-intent, blank-slip};
-ghost use Rattle.rules.specs.Securities.{unlisted};
+ghost use Rattle.rules.specs.Securities.{none-listed};
 ghost use Rattle.session.specs.Calls.{call-answer, call-after};
 ghost use Rattle.std.specs.Of.Vec.{vec-items};
 ghost use Rattle.std.specs.Vec.{made};
@@ -25,7 +25,7 @@ pub struct Session {
 impl Session {
     /// A new book, with a table and a page of that many places.
     pub fn open(heap: Global, places: usize) -> Result<Session, AllocError>
-        ensures book { λ r. ⌜ made r (λ s. s .book .securities ≡ replicate 64 unlisted) ⌝ }
+        ensures book { λ r. ⌜ made r (λ s. s .book .securities ≡ none-listed) ⌝ }
         ensures table { λ r. ⌜ made r (λ s. vec-items (s .table) ≡ replicate places blank-intent) ⌝ }
         ensures page { λ r. ⌜ made r (λ s. vec-items (s .page) ≡ replicate places blank-slip) ⌝ }
     {

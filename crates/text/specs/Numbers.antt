@@ -19,6 +19,7 @@ abbrev pub value-on : ℕ → List ℕ → ℕ
 value-on n [] = n
 value-on n (c ∷ cs) = value-on (n * 10 + (c - 48)) cs
 
+-- the same, where all are digits and the value is not too large
 abbrev pub within : ℕ → List ℕ → Option ℕ
 within n cs = cond (digits cs && leb (value-on n cs) 4294967295) (Some (value-on n cs)) None
 
