@@ -1,4 +1,5 @@
 -- How far a reader has come, and what it has still to read.
+use mathlib.Core.Path.{_≡_}
 use Prim.Native.Nat.{ℕ, _-_}
 use denote.Ref.{now}
 use lib.ListN.{length, drop}
@@ -21,6 +22,12 @@ abbrev pub followed-by : Result (Option Call) ReadFault → Reading → Reading
 followed-by (Ok None) rest = end
 followed-by (Ok (Some c)) rest = call c rest
 followed-by (Err f) rest = fault f
+
+-- at the end and at a fault nothing is read
+abbrev pub Stays : Result (Option Call) ReadFault → Reading → Reading → Type 0
+Stays (Ok None) before after = after ≡ before
+Stays (Ok (Some c)) before after = Unit {0}
+Stays (Err f) before after = after ≡ before
 
 -- how many bytes are left to read
 abbrev pub left : Reader → ℕ

@@ -3,7 +3,7 @@ ghost use lib.ListN.{length};
 ghost use Prim.Native.Nat.{_≤_};
 
 /// A script, and how far it has been read.
-#[derive(Drop)]
+#[derive(Clone, Copy)]
 pub struct Reader<'a> {
     pub(crate) text: &'a [u8],
     /// Where the next line begins.

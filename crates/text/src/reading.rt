@@ -7,7 +7,7 @@ ghost use Rattle.std.specs.Slices.{found};
 ghost use Rattle.std.specs.Vec.{made};
 ghost use Rattle.text.specs.Grammar.{Form, done, ask, number-then, form-of, list-form};
 ghost use Rattle.text.specs.Lines.{lines};
-ghost use Rattle.text.specs.Progress.{to-read, followed-by, left};
+ghost use Rattle.text.specs.Progress.{to-read, followed-by, Stays, left};
 ghost use Rattle.text.specs.Readings.{start, read, length-check};
 ghost use Rattle.text.specs.Steps.{onward-from, went, lined, Advanced};
 use crate::faults::Cause;
@@ -46,16 +46,24 @@ impl<'a> Reader<'a> {
         }
     }
 
-    /// The next call, or none at the end of the script.
+    /// The next call, or none at the end of the script. At the end and at a fault the reader stays where it was, so
+    /// that asking again gives the same.
     pub fn next_call(&mut self) -> Result<Option<Call>, ReadFault>
         ensures reads { λ r. ⌜ to-read (now (self .entry)) start ≡ followed-by r (to-read (now (self .exit)) start) ⌝ }
+        ensures stays { λ r. ⌜ Stays r (to-read (now (self .entry)) start) (to-read (now (self .exit)) start) ⌝ }
         ensures advanced { λ r. ⌜ made r (λ o. found o (λ _. left (now (self .exit)) < left (now (self .entry)))) ⌝ }
     {
         if self.at == self.text.len() {
             return Ok(None);
         }
-        let call = self.call()?;
-        Ok(Some(call))
+        let before = *self;
+        match self.call() {
+            Ok(call) => Ok(Some(call)),
+            Err(fault) => {
+                *self = before;
+                Err(fault)
+            }
+        }
     }
 
     /// A call, from the line that names it on.

@@ -1,5 +1,4 @@
-use borrow.Author.Needs.{needs}
-use mathlib.Core.Path.{ap, _∙_}
+use mathlib.Core.Path.{refl, ap, _∙_}
 use native.Mathlib.Omega.{arith}
 use Rattle.std.proofs.shelf.Lists.{drop-all}
 use Rattle.text.specs.Lines.{lines}
@@ -10,14 +9,16 @@ use Rattle.text.proofs.reader.Reader.next_call.Needs as need
 pub returns-then-self : need.returns-then-self
 returns-then-self c =
     let x = c .args .self .now in
-    record { reads = ap (λ t. read (lines t) (x .line) start) (drop-all (x .at) (x .text .now) (omega arith)); advanced = tt }
+    record { reads = ap (λ t. read (lines t) (x .line) start) (drop-all (x .at) (x .text .now) (omega arith)); stays = refl; advanced = tt }
 
-pub returns-in-Break-call : need.returns-in-Break-call
-returns-in-Break-call c = let begins = started (c .args .self .now) (omega arith) in search needs
-
-pub returns : need.returns
-returns c =
+pub returns-in-Ok : need.returns-in-Ok
+returns-in-Ok c =
     record {
-      reads = started (c .args .self .now) (omega arith) ∙ c .in-Continue-call .ensures tt .reads;
-      advanced = c .in-Continue-call .ensures tt .advanced;
+      reads = started (c .args .self .now) (omega arith) ∙ c .in-Ok .ensures tt .reads;
+      stays = tt;
+      advanced = c .in-Ok .ensures tt .advanced;
     }
+
+pub returns-in-Err : need.returns-in-Err
+returns-in-Err c =
+    record { reads = started (c .args .self .now) (omega arith) ∙ c .in-Err .ensures tt .reads; stays = refl; advanced = tt }
