@@ -1,8 +1,11 @@
 ghost use mathlib.Core.Path.{_≡_};
+ghost use lib.ListN.{replicate};
+ghost use Rattle.rules.specs.Blanks.{blank-intent, blank-slip};
 ghost use Rattle.rules.specs.Securities.{none-listed};
 ghost use Rattle.session.specs.Plays.{Played, Unless-memory, Closed};
 ghost use Rattle.session.specs.Runs.{listing-text, after-run};
 ghost use Rattle.std.specs.Of.String.{string-bytes};
+ghost use Rattle.std.specs.Of.Vec.{vec-items};
 ghost use Rattle.std.specs.Vec.{made};
 ghost use Rattle.text.specs.Readings.{reading};
 use crate::faults::Fault;
@@ -27,13 +30,15 @@ pub struct Transcript {
     pub listing: String,
 }
 
-/// The listing of a script that is run on a new book.
-pub fn listing_of(heap: Global, script: &[u8]) -> Result<String, AllocError>
-    ensures { λ r. ⌜ made r (λ t. string-bytes t ≡ listing-text none-listed (reading (now (script .entry)))) ⌝ }
+/// Runs a script on a new book with a table and a page of 256 places each.
+pub fn run_script(heap: Global, script: &[u8]) -> Result<Transcript, AllocError>
+    ensures listing { λ r. ⌜ made r (λ t. string-bytes (t .listing) ≡ listing-text none-listed (reading (now (script .entry)))) ⌝ }
+    ensures book { λ r. ⌜ made r (λ t. t .session .book .securities ≡ after-run none-listed (reading (now (script .entry)))) ⌝ }
+    ensures table { λ r. ⌜ made r (λ t. vec-items (t .session .table) ≡ replicate 256 blank-intent) ⌝ }
+    ensures page { λ r. ⌜ made r (λ t. vec-items (t .session .page) ≡ replicate 256 blank-slip) ⌝ }
 {
     let session = Session::open(heap, PLACES)?;
-    let transcript = session.run(heap, script)?;
-    Ok(transcript.listing)
+    session.run(heap, script)
 }
 
 /// Closes a listing by the fault that ended the script, if one did.

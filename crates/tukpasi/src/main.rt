@@ -1,5 +1,5 @@
 //! Runs a script from standard input and prints its listing.
-use session::runs::listing_of;
+use session::runs::run_script;
 use std::env;
 use std::error::AnyError;
 use std::io::Read;
@@ -41,8 +41,8 @@ fn run(rt: &LibcRuntime) -> Result<(), AnyError> {
     }
     let mut script = Vec::new(rt.alloc());
     rt.stdin().take(ENOUGH).read_to_end(&mut script)?;
-    let listing = listing_of(rt.alloc(), script.as_slice())?;
-    rt.print(listing.as_str())?;
+    let transcript = run_script(rt.alloc(), script.as_slice())?;
+    rt.print(transcript.listing.as_str())?;
     Ok(())
 }
 
