@@ -1,6 +1,12 @@
-//! The subject's records: securities and their quotes, intents, slips, calls, answers and refusals.
+//! The subject's records (securities and quotes, intents, orders, slips, calls, answers, refusals) and its rules: who may
+//! trade with whom, at what price, and who goes first.
 pub mod calls;
+pub mod incoming;
 pub mod intents;
+pub mod orders;
+pub mod phases;
+pub mod quotes;
+pub mod ranges;
 pub mod refusals;
 pub mod securities;
 pub mod slips;

@@ -1,7 +1,9 @@
 ghost use mathlib.Core.Bool.{cond};
 ghost use mathlib.Core.Path.{_≡_};
-ghost use Rattle.rules.specs.Securities.{list-outcome, just-listed};
+ghost use Rattle.rules.specs.Securities.{list-outcome, just-listed, in-force};
 ghost use Rattle.std.specs.Results.{isOk};
+use crate::phases::Phase;
+use crate::quotes::Quote;
 use crate::refusals::Refusal;
 
 /// Whether a listed security trades, and if not, why.
@@ -12,15 +14,6 @@ pub enum State {
     Delayed,
     Frozen,
     Inhibited,
-}
-
-/// The best bid and offer of the market, in ticks, with their volumes.
-#[derive(Clone, Copy)]
-pub struct Quote {
-    pub bid: u32,
-    pub bid_volume: u32,
-    pub offer: u32,
-    pub offer_volume: u32,
 }
 
 /// One security as the book keeps it. The quote is absent before the first one and after one is withdrawn.
@@ -53,5 +46,15 @@ impl Security {
             quote: None,
         };
         Ok(())
+    }
+
+    /// The quote that the security trades under now: none outside the regular phase, and none unless it is open.
+    pub fn quote_in_force(&self, phase: Phase) -> Option<Quote>
+        ensures { λ r. ⌜ r ≡ in-force phase (now (self .entry)) ⌝ }
+    {
+        match (phase, self.state) {
+            (Phase::Regular, State::Open) => self.quote,
+            _ => None,
+        }
     }
 }

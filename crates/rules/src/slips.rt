@@ -1,11 +1,12 @@
-/// A match: what the active party took from a resting intent, and at what price in half ticks.
+/// A match: what the active party took from a resting intent.
 #[derive(Clone, Copy)]
 pub struct Fill {
     /// The arrival number of the intent that had its turn, or 0 for an order.
     pub active: u32,
     pub passive: u32,
     pub volume: u32,
-    pub price: u32,
+    /// In half ticks.
+    pub price: u64,
     /// The letter of the price rule.
     pub mark: char,
 }
