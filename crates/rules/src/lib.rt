@@ -5,6 +5,7 @@ pub mod incoming;
 pub mod intents;
 pub mod orders;
 pub mod phases;
+pub mod prices;
 pub mod quotes;
 pub mod ranges;
 pub mod refusals;
