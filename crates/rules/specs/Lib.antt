@@ -2,6 +2,7 @@ pub mod Blanks
 pub mod Incoming
 pub mod Intents
 pub mod Prices
+pub mod Priorities
 pub mod Quotes
 pub mod Ranges
 pub mod Refusals

@@ -6,6 +6,7 @@ pub mod intents;
 pub mod orders;
 pub mod phases;
 pub mod prices;
+pub mod priorities;
 pub mod quotes;
 pub mod ranges;
 pub mod refusals;
