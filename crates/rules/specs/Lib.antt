@@ -1,4 +1,5 @@
 pub mod Blanks
+pub mod Eligibility
 pub mod Incoming
 pub mod Intents
 pub mod Prices

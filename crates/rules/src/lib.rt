@@ -1,6 +1,7 @@
 //! The subject's records (securities and quotes, intents, orders, slips, calls, answers, refusals) and its rules: who may
 //! trade with whom, at what price, and who goes first.
 pub mod calls;
+pub mod eligibility;
 pub mod incoming;
 pub mod intents;
 pub mod orders;
