@@ -13,3 +13,4 @@ pub mod ranges;
 pub mod refusals;
 pub mod securities;
 pub mod slips;
+pub mod worked_examples;
