@@ -6,6 +6,7 @@ use Rattle.std.specs.declared.option.Option.the-variants.{None}
 use Rattle.rules.specs.Eligibility.{eligible}
 use Rattle.rules.specs.Incoming.{intent-incoming, order-incoming}
 use Rattle.rules.specs.Prices.{step-price, midpoint-price}
+use Rattle.rules.specs.Quotes.{lawful-quote}
 use Rattle.rules.specs.declared.orders.Order.{Order}
 use Rattle.rules.specs.declared.intents.Intent.{Intent}
 use Rattle.rules.specs.declared.intents.Side.{Side}
@@ -38,11 +39,13 @@ intent number side limit min-spread min-volume = record {
 }
 
 pub record One-step-inside-a-wide-spread : Type 0 where
+  pub lawful : lawful-quote wide ≡ true
   pub buy : step-price 1 wide Buy ≡ 2018
   pub sell : step-price 1 wide Sell ≡ 2002
   pub midpoint : midpoint-price wide ≡ 2010
 
 pub record A-step-stops-at-the-far-side : Type 0 where
+  pub lawful : lawful-quote narrow ≡ true
   pub buy : step-price 2 narrow Buy ≡ 2000
   pub sell : step-price 2 narrow Sell ≡ 2002
   pub midpoint : midpoint-price narrow ≡ 2001

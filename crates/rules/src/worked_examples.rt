@@ -108,7 +108,8 @@ fn one_step_inside_a_wide_spread() -> bool
     ensures { λ r. ⌜ r ≡ true ⌝ }
 {
     let step = StepRule { ticks: 1 };
-    step.price_of(&WIDE, Side::Buy) == 2018
+    WIDE.is_lawful()
+        && step.price_of(&WIDE, Side::Buy) == 2018
         && step.price_of(&WIDE, Side::Sell) == 2002
         && MidpointRule.price_of(&WIDE, Side::Buy) == 2010
 }
@@ -117,7 +118,8 @@ fn a_step_stops_at_the_far_side() -> bool
     ensures { λ r. ⌜ r ≡ true ⌝ }
 {
     let step = StepRule { ticks: 2 };
-    step.price_of(&NARROW, Side::Buy) == 2000
+    NARROW.is_lawful()
+        && step.price_of(&NARROW, Side::Buy) == 2000
         && step.price_of(&NARROW, Side::Sell) == 2002
         && MidpointRule.price_of(&NARROW, Side::Buy) == 2001
 }
