@@ -18,6 +18,7 @@ pub impl<R: PriceRule> PriceRule for OfferRule<R> as OfferPrice {
 
     ghost price = { λ rule quote side. elim side [ Buy ↦ 2 * quote .offer | Sell ↦ R·PriceRule .price (rule .below) quote Sell ] };
 
+    // the letter F
     ghost mark = { 70 };
 
     fn price_of(&self, quote: &Quote, side: Side) -> u64 {
