@@ -1,4 +1,4 @@
--- Who may trade with whom under the quote in force.
+-- Who may trade with whom, given the quote in force and the price.
 use mathlib.Core.Bool.{Bool, true, false, not, _&&_}
 use Prim.Native.Nat.{ℕ, _*_}
 use lib.Dec.{leb, ltb, eqb}
@@ -27,7 +27,7 @@ abbrev pub within-limit : Side → ℕ → ℕ → Bool
 within-limit Buy limit price = leb price (2 * limit)
 within-limit Sell limit price = leb (2 * limit) price
 
--- the same of a limit that a market order has not
+-- the same where there may be no limit: a market order has none
 abbrev pub within-any-limit : Side → Option ℕ → ℕ → Bool
 within-any-limit side None price = true
 within-any-limit side (Some limit) price = within-limit side limit price

@@ -1,4 +1,4 @@
--- Who is ahead of whom: time, the tiers over any order below them, and the pile of Rule 4-108(6).
+-- Who is ahead of whom: time, the tiers over any ranking below them, and the pile of Rule 4-108(6).
 use mathlib.Core.Bool.{Bool, true, false, cond}
 use Prim.Native.Nat.{ℕ}
 use lib.Dec.{leb, ltb, eqb}
@@ -15,7 +15,7 @@ by-time a b = ltb (a .number) (b .number)
 abbrev pub by-group : Ahead
 by-group a b = cond (eqb (a .group) (b .group)) (by-time a b) (ltb (a .group) (b .group))
 
--- those that pass the test are ahead of those that fail it; two of a kind go by an order of their kind
+-- those that pass the test are ahead of those that fail it; two alike go by the ranking of their kind
 abbrev pub tier : (Standing → Bool) → Ahead → Ahead → Ahead
 tier test passed failed a b = cond (test a) (cond (test b) (passed a b) true) (cond (test b) false (failed a b))
 
@@ -23,7 +23,7 @@ tier test passed failed a b = cond (test a) (cond (test b) (passed a b) true) (c
 abbrev pub large-first : ℕ → Ahead → Ahead
 large-first threshold below = tier (λ (x : Standing). leb threshold (x .entered)) below below
 
--- the incoming subscriber's own, by group; strangers by the order below
+-- the incoming subscriber's own, by group; strangers by the ranking below
 abbrev pub house-first : ℕ → Ahead → Ahead
 house-first subscriber below = tier (λ (x : Standing). eqb (x .subscriber) subscriber) by-group below
 

@@ -36,7 +36,7 @@ fn is_within_limit(side: Side, limit: u32, price: u64) -> bool
     }
 }
 
-/// The same for a limit that a market order has not.
+/// The same where there may be no limit: a market order has none.
 fn is_within_any_limit(side: Side, limit: Option<u32>, price: u64) -> bool
     ensures { λ r. ⌜ r ≡ within-any-limit side limit price ⌝ }
 {
@@ -46,8 +46,8 @@ fn is_within_any_limit(side: Side, limit: Option<u32>, price: u64) -> bool
     }
 }
 
-/// Whether a resting intent is eligible for the incoming party. The quote is the one in force for the incoming party's
-/// security, and the price is the price rule's for that quote and the incoming side, in half ticks.
+/// Whether a resting intent is eligible for the incoming party, given the quote in force for the incoming party's security
+/// (`Security::quote_in_force`) and the price rule's price for that quote and the incoming side, in half ticks.
 pub fn is_eligible(quote: &Quote, price: u64, incoming: &Incoming, intent: &Intent) -> bool
     ensures { λ r. ⌜ r ≡ eligible (now (quote .entry)) price (now (incoming .entry)) (now (intent .entry)) ⌝ }
 {
