@@ -46,7 +46,7 @@ def own_names(root):
             text = plain(path, f.read())
         for use in USE.finditer(text):
             steps = use[1].split(".")
-            goals = len(steps) > 3 and steps[2] == "proofs"
+            goals = len(steps) > 4 and steps[2] == "proofs"
             if steps[:1] != ["Rattle"] or steps[1] not in crates or goals:
                 other.update(re.findall(r"[^\s,]+", re.sub(r"\bas\s+\S+", "", use[2])))
         if is_own_file(root, path):

@@ -12,10 +12,10 @@ use Rattle.law.specs.Memories.{Memory, account, lawful_table, written}
 use Rattle.law.specs.Models.{turn_fills}
 use Rattle.law.specs.Outcomes.{after}
 use Rattle.law.specs.Turns.{Rules, LawfulRules, LawfulQuotes, OnlyTurn, fills}
-use Rattle.law.proofs.Checked.{checked-err}
-use Rattle.law.proofs.Lawful.{sound-account}
-use Rattle.law.proofs.Outcomes.{after-refused}
-use Rattle.law.proofs.TurnUnique.{turn-theorem}
+use Rattle.law.proofs.Checked.{checked_err}
+use Rattle.law.proofs.Lawful.{sound_account}
+use Rattle.law.proofs.Outcomes.{after_refused}
+use Rattle.law.proofs.TurnUnique.{turn_theorem}
 use Rattle.book.specs.declared.turns.Turned.{Turned}
 use Rattle.book.specs.Matches.{Matched}
 
@@ -29,9 +29,9 @@ pub record Refused {A : Type 0} (rules : Rules) (m : Memory) (c : Call) (x : A) 
   pub stays : m ≡ after rules m c
 
 -- by the exit of a `?` behind the checks
-pub refused-by : {A B : Type 0} (rules : Rules) (m : Memory) (c : Call) (x : A) (z : B) (r : Result A Refusal) (y e : Refusal) → r ≡ Err y → y ≡ e → Err e ≡ checked (checks m c) z → Refused rules m c x r
-refused-by rules m c x z r y e came same failed =
-    record { answer = came ∙ ap Err same ∙ sym (checked-err (checks m c) z x e (sym failed)); stays = sym (after-refused rules m c z e (sym failed)) }
+pub refused_by : {A B : Type 0} (rules : Rules) (m : Memory) (c : Call) (x : A) (z : B) (r : Result A Refusal) (y e : Refusal) → r ≡ Err y → y ≡ e → Err e ≡ checked (checks m c) z → Refused rules m c x r
+refused_by rules m c x z r y e came same failed =
+    record { answer = came ∙ ap Err same ∙ sym (checked_err (checks m c) z x e (sym failed)); stays = sym (after_refused rules m c z e (sym failed)) }
 
 -- SLIPS
 
@@ -47,9 +47,9 @@ front_fills fs page = ap fills (take_at (map Filled fs) (drop (length (map Fille
 
 module _ (rules : Rules) (lawful : LawfulRules rules) (m m' : Memory) (i : Incoming) (r : Turned) (matched : Matched rules i m m' r) (table : lawful_table m.count m.next m.table ≡ true) where
   -- the slips on the page are those of the turn, and the law allows no others
-  pub turned-by-law : LawfulQuotes m.securities → OnlyTurn rules (account m) i (fills (take r.slips m'.page))
-  turned-by-law quotes =
+  pub turned_by_law : LawfulQuotes m.securities → OnlyTurn rules (account m) i (fills (take r.slips m'.page))
+  turned_by_law quotes =
       let fs : List Fill = turn_fills rules (account m) i in
       let on_page : fills (take r.slips m'.page) ≡ fs =
       ap (λ (n : ℕ). fills (take n m'.page)) matched.slips ∙ ap (λ (x : Memory). fills (take (length fs) x.page)) matched.after ∙ front_fills fs m.page in
-      subst (OnlyTurn rules (account m) i) (sym on_page) (turn-theorem rules (account m) i lawful (sound-account m table quotes))
+      subst (OnlyTurn rules (account m) i) (sym on_page) (turn_theorem rules (account m) i lawful (sound_account m table quotes))

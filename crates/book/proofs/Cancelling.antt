@@ -12,15 +12,15 @@ use Rattle.law.specs.Lists.{keep, Each, Pairwise}
 use Rattle.law.specs.Memories.{Memory, lawful_intents, lawful_table, laid_out}
 use Rattle.law.specs.Outcomes.{cancel_answer, after}
 use Rattle.law.specs.Turns.{Rules}
-use Rattle.law.proofs.Checked.{checked-ok, checked-passes}
-use Rattle.law.proofs.Lawful.{table-parts, lawful-count, lawful-left, lawful-rising}
-use Rattle.law.proofs.Lessened.{left-found}
-use Rattle.law.proofs.Lists.{each-weaker, keep_all, keep-short}
-use Rattle.law.proofs.Numbers.{Apart, rising-apart}
-use Rattle.law.proofs.Outcomes.{after-accepted}
+use Rattle.law.proofs.Checked.{checked_ok, checked_passes}
+use Rattle.law.proofs.Lawful.{table_parts, lawful_count, lawful_left, lawful_rising}
+use Rattle.law.proofs.Lessened.{left_found}
+use Rattle.law.proofs.Lists.{each_weaker, keep_all, keep_short}
+use Rattle.law.proofs.Numbers.{Apart, rising_apart}
+use Rattle.law.proofs.Outcomes.{after_accepted}
 use Rattle.ledger.specs.Places.{at, live, position}
 use Rattle.ledger.proofs.Scans.{found_here, found_nowhere}
-use Rattle.book.proofs.Matching.{laid-out-less}
+use Rattle.book.proofs.Matching.{laid_out_less}
 
 -- an emptied intent is the one that leaves
 emptied_leaves : (n : ℕ) (ps : List Intent) → Each (λ (p : Intent). 1 ≤ p.remaining) ps → Pairwise Apart ps → position n ps < length ps →
@@ -32,8 +32,8 @@ emptied_leaves n (p ∷ ps) some apart here = by (eqb p.number n) refl here (emp
         (position n ps < length ps → keep live (set ps (position n ps) (with_left (at ps (position n ps)) 0)) ≡ without n ps) →
         keep live (set (p ∷ ps) (cond b 0 (suc (position n ps))) (with_left (at (p ∷ ps) (cond b 0 (suc (position n ps)))) 0)) ≡ cond (not b) (p ∷ without n ps) (without n ps)
     by true e l more =
-        keep_all live ps (each-weaker _ _ (λ q h. lt-ltb 0 q.remaining h) ps some.1)
-        ∙ sym (keep_all (λ (q : Intent). not (eqb q.number n)) ps (each-weaker _ _ (λ q d. ap not (ne_eqb _ _ (λ k. d (eqb-true p.number n e ∙ sym k)))) ps apart.0))
+        keep_all live ps (each_weaker _ _ (λ q h. lt-ltb 0 q.remaining h) ps some.1)
+        ∙ sym (keep_all (λ (q : Intent). not (eqb q.number n)) ps (each_weaker _ _ (λ q d. ap not (ne_eqb _ _ (λ k. d (eqb-true p.number n e ∙ sym k)))) ps apart.0))
     by false e l more =
         cond-true (live p) (p ∷ keep live (set ps (position n ps) (with_left (at ps (position n ps)) 0))) _ (lt-ltb 0 p.remaining some.0)
         ∙ ap (λ (l : List Intent). p ∷ l) (more (omega arith))
@@ -52,22 +52,22 @@ module _ (rules : Rules) (m : Memory) (subscriber n place : ℕ) (passed : Ok pl
   emptied = set m.table place (with_left (at m.table place) 0)
 
   place_is : place ≡ position n ps
-  place_is = let e = checked-ok (cancel_checks m subscriber n) (position n ps) place (position n ps) (sym passed) in cc
+  place_is = let e = checked_ok (cancel_checks m subscriber n) (position n ps) place (position n ps) (sym passed) in cc
 
   lawful : lawful_table m.count m.next m.table ≡ true
-  lawful = (checked-passes (cancel_checks m subscriber n) (position n ps) place (sym passed)).0
+  lawful = (checked_passes (cancel_checks m subscriber n) (position n ps) place (sym passed)).0
 
   intents : lawful_intents 0 m.next ps ≡ true
-  intents = (table-parts m.count m.next m.table lawful).intents
+  intents = (table_parts m.count m.next m.table lawful).intents
 
   apart : Pairwise Apart ps
-  apart = rising-apart ps (lawful-rising 0 m.next ps intents)
+  apart = rising_apart ps (lawful_rising 0 m.next ps intents)
 
   here : position n ps < length ps
-  here = is_there subscriber n ps (checked-passes (cancel_checks m subscriber n) (position n ps) place (sym passed)).1.0
+  here = is_there subscriber n ps (checked_passes (cancel_checks m subscriber n) (position n ps) place (sym passed)).1.0
 
   many : length ps ≡ m.count
-  many = lawful-count m.count m.next m.table lawful
+  many = lawful_count m.count m.next m.table lawful
 
   same : at m.table place ≡ at ps (position n ps)
   same = ap (at m.table) place_is ∙ sym (get_or-take m.count m.table (position n ps) blank_intent (let l = many in let h = here in omega arith))
@@ -77,17 +77,17 @@ module _ (rules : Rules) (m : Memory) (subscriber n place : ℕ) (passed : Ok pl
       let inside : place < m.count = omega (arith, place_is, here, many) in
       ap (keep live) (take-set-lt m.count m.table place (with_left (at m.table place) 0) inside
       ∙ ap (λ (x : Intent). set ps place (with_left x 0)) same ∙ ap (λ (k : ℕ). set ps k (with_left (at ps (position n ps)) 0)) place_is)
-      ∙ emptied_leaves n ps (lawful-left 0 m.next ps intents) apart here
+      ∙ emptied_leaves n ps (lawful_left 0 m.next ps intents) apart here
 
-  pub cancel-answered : Ok (at m.table place).remaining ≡ cancel_answer m subscriber n
-  cancel-answered =
-      ap Ok (ap (λ (x : Intent). x.remaining) same ∙ sym (left-found n ps (at ps (position n ps)) apart (found_here n ps here)))
-      ∙ sym (checked-ok (cancel_checks m subscriber n) (position n ps) place (left_of n ps) (sym passed))
+  pub cancel_answered : Ok (at m.table place).remaining ≡ cancel_answer m subscriber n
+  cancel_answered =
+      ap Ok (ap (λ (x : Intent). x.remaining) same ∙ sym (left_found n ps (at ps (position n ps)) apart (found_here n ps here)))
+      ∙ sym (checked_ok (cancel_checks m subscriber n) (position n ps) place (left_of n ps) (sym passed))
 
-  pub cancel-after : (count' : ℕ) (table' : List Intent) → count' ≡ length (keep live (take m.count emptied)) →
+  pub cancel_after : (count' : ℕ) (table' : List Intent) → count' ≡ length (keep live (take m.count emptied)) →
       table' ≡ keep live (take m.count emptied) ++ (replicate (m.count - count') blank_intent ++ drop m.count emptied) →
       record { phase = m.phase; day = m.day; next = m.next; securities = m.securities; count = count'; table = table'; page = m.page } ≡ after rules m (cancel_call subscriber n)
-  cancel-after count' table' counted closed =
+  cancel_after count' table' counted closed =
       let inside : place < m.count = omega (arith, place_is, here, many) in
       let rs : List Intent = without n ps in
       let count_is : count' ≡ length rs = counted ∙ ap length leaves in
@@ -95,6 +95,6 @@ module _ (rules : Rules) (m : Memory) (subscriber n place : ℕ) (passed : Ok pl
       closed ∙ ap (λ (l : List Intent). l ++ (replicate (m.count - count') blank_intent ++ drop m.count emptied)) leaves
       ∙ ap (λ (k : ℕ). rs ++ (replicate (m.count - k) blank_intent ++ drop m.count emptied)) count_is
       ∙ ap (λ (l : List Intent). rs ++ (replicate (m.count - length rs) blank_intent ++ l)) (drop-set-lt m.count m.table place (with_left (at m.table place) 0) inside)
-      ∙ laid-out-less m.count m.next m.table rs lawful (omega (arith, keep-short (λ (p : Intent). not (eqb p.number n)) ps, many)) in
+      ∙ laid_out_less m.count m.next m.table rs lawful (omega (arith, keep_short (λ (p : Intent). not (eqb p.number n)) ps, many)) in
       (λ j. record { phase = m.phase; day = m.day; next = m.next; securities = m.securities; count = count_is j; table = table_is j; page = m.page })
-      ∙ sym (after-accepted rules m (cancel_call subscriber n) (position n ps) place (sym passed))
+      ∙ sym (after_accepted rules m (cancel_call subscriber n) (position n ps) place (sym passed))

@@ -19,13 +19,13 @@ use Rattle.law.specs.Memories.{Memory, account, capacity, lawful_table, laid_out
 use Rattle.law.specs.Models.{queue, fills_under, turn_fills}
 use Rattle.law.specs.Outcomes.{enter_answer, after}
 use Rattle.law.specs.Turns.{Rules, active_number}
-use Rattle.law.proofs.Checked.{checked-ok, checked-passes}
-use Rattle.law.proofs.Fills.{traded-active}
-use Rattle.law.proofs.Lawful.{table-parts, lawful-count, lawful-numbers}
-use Rattle.law.proofs.Lessened.{lessen-append, lessen-short, each-lessen, left-none, left-append, left_one}
-use Rattle.law.proofs.Lists.{each-weaker}
-use Rattle.law.proofs.Outcomes.{after-accepted}
-use Rattle.law.proofs.Serve.{serve-active}
+use Rattle.law.proofs.Checked.{checked_ok, checked_passes}
+use Rattle.law.proofs.Fills.{traded_active}
+use Rattle.law.proofs.Lawful.{table_parts, lawful_count, lawful_numbers}
+use Rattle.law.proofs.Lessened.{lessen_append, lessen_short, each_lessen, left_none, left_append, left_one}
+use Rattle.law.proofs.Lists.{each_weaker}
+use Rattle.law.proofs.Outcomes.{after_accepted}
+use Rattle.law.proofs.Serve.{serve_active}
 use Rattle.book.specs.declared.turns.Turned.{Turned}
 use Rattle.book.specs.Matches.{Matched}
 use Rattle.book.proofs.Calling.{Passed}
@@ -33,7 +33,7 @@ use Rattle.book.proofs.Calling.{Passed}
 -- every slip of a turn carries the party's number
 fills_active : (rules : Rules) (a : Account) (i : Incoming) (o : Option Quote) → Each (λ (f : Fill). f.active ≡ active_number i.number) (fills_under rules o a i)
 fills_active rules a i None = tt
-fills_active rules a i (Some q) = serve-active (active_number i.number) (rules.price q i.side) rules.mark i.volume (queue (rules.ahead i.subscriber) (eligible_for rules.price a i))
+fills_active rules a i (Some q) = serve_active (active_number i.number) (rules.price q i.side) rules.mark i.volume (queue (rules.ahead i.subscriber) (eligible_for rules.price a i))
 
 -- one more behind, or none
 rest_count : (b : Bool) (rs : List Intent) (x : Intent) → cond b (length rs + 1) (length rs) ≡ length (rs ++ cond b (x ∷ []) [])
@@ -65,40 +65,40 @@ module _ (rules : Rules) (m : Memory) (t : Terms) (passed : Passed (enter_checks
   left = t.volume - volume_of fs
 
   lawful : lawful_table m.count m.next m.table ≡ true
-  lawful = (checked-passes (enter_checks m t) tt tt passed).0
+  lawful = (checked_passes (enter_checks m t) tt tt passed).0
 
   -- there is a place behind those that are left
   pub free : length (lessen fs ps) < capacity m.table
   free =
-      let tests = checked-passes (enter_checks m t) tt tt passed in
+      let tests = checked_passes (enter_checks m t) tt tt passed in
       let room = ltb-true m.count (capacity m.table) tests.1.1.1.1.1.1.1.0 in
-      omega (arith, lessen-short fs ps, lawful-count m.count m.next m.table lawful)
+      omega (arith, lessen_short fs ps, lawful_count m.count m.next m.table lawful)
 
   mine : traded m.next fs ≡ volume_of fs
-  mine = traded-active m.next fs (fills_active rules (account m) (intent_incoming new) (quote_in_force (account m) t.security))
+  mine = traded_active m.next fs (fills_active rules (account m) (intent_incoming new) (quote_in_force (account m) t.security))
 
   -- who rests then
   resting : lessen fs (ps ++ (new ∷ [])) ≡ lessen fs ps ++ cond (ltb 0 left) (with_left new left ∷ []) []
-  resting = lessen-append fs ps (new ∷ []) ∙ ap (λ (n : ℕ). lessen fs ps ++ cond (ltb 0 (t.volume - n)) (with_left new (t.volume - n) ∷ []) []) mine
+  resting = lessen_append fs ps (new ∷ []) ∙ ap (λ (n : ℕ). lessen fs ps ++ cond (ltb 0 (t.volume - n)) (with_left new (t.volume - n) ∷ []) []) mine
 
   left_is : left ≡ left_of m.next (lessen fs (ps ++ (new ∷ [])))
   left_is =
       let others : left_of m.next (lessen fs ps) ≡ 0 =
-      left-none m.next (lessen fs ps) (each-lessen (λ (p : Intent). p.number ≡ m.next → ⊥) (λ p v h. h) fs ps
-      (each-weaker _ _ (λ p h e. omega arith) ps (lawful-numbers 0 m.next ps (table-parts m.count m.next m.table lawful).intents))) in
-      let both = ap (left_of m.next) (lessen-append fs ps (new ∷ [])) ∙ left-append m.next (lessen fs ps) (lessen fs (new ∷ [])) in
+      left_none m.next (lessen fs ps) (each_lessen (λ (p : Intent). p.number ≡ m.next → ⊥) (λ p v h. h) fs ps
+      (each_weaker _ _ (λ p h e. omega arith) ps (lawful_numbers 0 m.next ps (table_parts m.count m.next m.table lawful).intents))) in
+      let both = ap (left_of m.next) (lessen_append fs ps (new ∷ [])) ∙ left_append m.next (lessen fs ps) (lessen fs (new ∷ [])) in
       omega (arith, mine, left_one fs new)
 
   module _ (m' : Memory) (r : Turned) (matched : Matched rules (intent_incoming new) m m' r) where
-    pub enter-answered : Ok (record { number = m.next; resting = r.left; slips = r.slips }) ≡ enter_answer rules m t
-    enter-answered =
+    pub enter_answered : Ok (record { number = m.next; resting = r.left; slips = r.slips }) ≡ enter_answer rules m t
+    enter_answered =
         let same : record { number = m.next; resting = r.left; slips = r.slips } ≡ entered (account m) t fs = λ j. record { number = m.next; resting = (matched.left ∙ left_is) j; slips = matched.slips j } in
-        ap Ok same ∙ sym (checked-ok (enter_checks m t) tt tt (entered (account m) t fs) passed)
+        ap Ok same ∙ sym (checked_ok (enter_checks m t) tt tt (entered (account m) t fs) passed)
 
-    pub enter-after : (count' : ℕ) (table' : List Intent) → count' ≡ cond (ltb 0 r.left) (m'.count + 1) m'.count →
+    pub enter_after : (count' : ℕ) (table' : List Intent) → count' ≡ cond (ltb 0 r.left) (m'.count + 1) m'.count →
         table' ≡ cond (ltb 0 r.left) (set m'.table m'.count (with_left new r.left)) m'.table →
         record { phase = m'.phase; day = m'.day; next = m.next + 1; securities = m'.securities; count = count'; table = table'; page = m'.page } ≡ after rules m (enter_call t)
-    enter-after count' table' counted written_there =
+    enter_after count' table' counted written_there =
         let rs : List Intent = lessen fs ps in
         let x : Intent = with_left new left in
         let b : Bool = ltb 0 left in
@@ -108,4 +108,4 @@ module _ (rules : Rules) (m : Memory) (t : Terms) (passed : Passed (enter_checks
         written_there ∙ ap (λ (v : ℕ). cond (ltb 0 v) (set m'.table m'.count (with_left new v)) m'.table) matched.left
         ∙ ap (λ (y : Memory). cond b (set y.table y.count x) y.table) matched.after ∙ rest_table b rs x m.table free ∙ sym (ap (λ (l : List Intent). laid_out l m.table) resting) in
         (λ j. record { phase = (matched.after j).phase; day = (matched.after j).day; next = m.next + 1; securities = (matched.after j).securities; count = count_is j; table = table_is j; page = (matched.after j).page })
-        ∙ sym (after-accepted rules m (enter_call t) tt tt passed)
+        ∙ sym (after_accepted rules m (enter_call t) tt tt passed)

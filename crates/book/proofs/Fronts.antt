@@ -10,26 +10,26 @@ use Rattle.rules.specs.Blanks.{blank_intent}
 use Rattle.ledger.specs.Places.{live}
 use Rattle.book.specs.InPlace.{alive, Distinct, relieved, Handed}
 
-pub distinct-take : (xs : List Intent) (m n : ℕ) → m ≡ n → n ≤ length xs → Distinct xs n → Distinct (take m xs) (length (take m xs))
-distinct-take xs m n e h d i j x y z w =
+pub distinct_take : (xs : List Intent) (m n : ℕ) → m ≡ n → n ≤ length xs → Distinct xs n → Distinct (take m xs) (length (take m xs))
+distinct_take xs m n e h d i j x y z w =
     let long = length-take m xs in
     d i j (omega arith) (omega arith) z
     (sym (ap (λ (p : Intent). p.number) (get_or-take m xs i blank_intent (omega arith))) ∙ w ∙ ap (λ (p : Intent). p.number) (get_or-take m xs j blank_intent (omega arith)))
 
-pub alive-take : (xs : List Intent) (m n : ℕ) → m ≡ n → alive (take m xs) ≡ alive (take n xs)
-alive-take xs m n e = ap (λ (k : ℕ). alive (take k xs)) e
+pub alive_take : (xs : List Intent) (m n : ℕ) → m ≡ n → alive (take m xs) ≡ alive (take n xs)
+alive_take xs m n e = ap (λ (k : ℕ). alive (take k xs)) e
 
 -- what was handed in the part was handed in the whole
-pub handed-take : (fills : List Intent → List Fill) (volume : ℕ) (xs : List Intent) (m n : ℕ) (zs : List Intent) → m ≡ n → n ≤ length xs → {ys : List Intent} {page page' : List Slip} {from : ℕ} {r : Turned} →
+pub handed_take : (fills : List Intent → List Fill) (volume : ℕ) (xs : List Intent) (m n : ℕ) (zs : List Intent) → m ≡ n → n ≤ length xs → {ys : List Intent} {page page' : List Slip} {from : ℕ} {r : Turned} →
     Handed (fills (take m xs)) volume (take m xs) ys page page' from r → Handed (fills (take n xs)) volume (take n xs) (take n (ys ++ zs)) page page' from r
-handed-take fills volume xs m n zs e h {ys} {page} {page'} {from} {r} u =
+handed_take fills volume xs m n zs e h {ys} {page} {page'} {from} {r} u =
     let long : length ys ≡ n = ap length u.table ∙ length-map (take m xs) (relieved (fills (take m xs))) ∙ length-take m xs ∙ omega arith in
     subst (λ (l : List Intent). Handed (fills (take n xs)) volume (take n xs) l page page' from r) (sym (take_at ys zs n long))
     (subst (λ (k : ℕ). Handed (fills (take k xs)) volume (take k xs) ys page page' from r) e u)
 
-pub closed-take : (xs : List Intent) (m n r : ℕ) {ys zs : List Intent} → m ≡ n → n ≤ length xs → zs ≡ drop n xs → ys ≡ keep live (take m xs) ++ replicate (length (take m xs) - r) blank_intent →
+pub closed_take : (xs : List Intent) (m n r : ℕ) {ys zs : List Intent} → m ≡ n → n ≤ length xs → zs ≡ drop n xs → ys ≡ keep live (take m xs) ++ replicate (length (take m xs) - r) blank_intent →
     ys ++ zs ≡ keep live (take n xs) ++ (replicate (n - r) blank_intent ++ drop n xs)
-closed-take xs m n r {ys} {zs} e h z y =
+closed_take xs m n r {ys} {zs} e h z y =
     let long : length (take m xs) ≡ n = length-take m xs ∙ omega arith in
     ap (λ (l : List Intent). l ++ zs) y ∙ ap (λ (l : List Intent). (keep live (take m xs) ++ replicate (length (take m xs) - r) blank_intent) ++ l) z
     ∙ append_assoc (keep live (take m xs)) (replicate (length (take m xs) - r) blank_intent) (drop n xs)

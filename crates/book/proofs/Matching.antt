@@ -16,13 +16,13 @@ use Rattle.law.specs.Lists.{keep, Each}
 use Rattle.law.specs.Memories.{Memory, capacity, account, lawful_intents, lawful_table, laid_out, written}
 use Rattle.law.specs.Models.{queue, serve, fills_under, turn_fills}
 use Rattle.law.specs.Turns.{Rules, given, active_number}
-use Rattle.law.proofs.Eligibility.{eligible-some}
-use Rattle.law.proofs.Fills.{traded-passive}
-use Rattle.law.proofs.Lawful.{table-parts, lawful-count, lawful-layout, lawful-numbers, lawful-rising, lawful-left}
-use Rattle.law.proofs.Lessened.{lessen-short}
-use Rattle.law.proofs.Lists.{each-weaker, keep-short}
-use Rattle.law.proofs.Places.{places-from-pairwise}
-use Rattle.law.proofs.Serve.{serve-active}
+use Rattle.law.proofs.Eligibility.{eligible_some}
+use Rattle.law.proofs.Fills.{traded_passive}
+use Rattle.law.proofs.Lawful.{table_parts, lawful_count, lawful_layout, lawful_numbers, lawful_rising, lawful_left}
+use Rattle.law.proofs.Lessened.{lessen_short}
+use Rattle.law.proofs.Lists.{each_weaker, keep_short}
+use Rattle.law.proofs.Places.{places_from_pairwise}
+use Rattle.law.proofs.Serve.{serve_active}
 use Rattle.ledger.specs.Places.{at, live}
 use Rattle.book.specs.declared.turns.Turned.{Turned}
 use Rattle.book.specs.InPlace.{ready, turn_under, relieved, written_from, Distinct, Handed}
@@ -45,14 +45,14 @@ module _ (rules : Rules) (a : Account) (i : Incoming) (some : Each (λ (p : Inte
   under (Some q) e =
       let price : ℕ = rules.price q i.side in
       ap (λ (l : List Intent). serve (active_number i.number) price rules.mark i.volume (queue (rules.ahead i.subscriber) l))
-      (keep_ready q price i a.resting some ∙ sym (eligible-some rules.price a i q e))
+      (keep_ready q price i a.resting some ∙ sym (eligible_some rules.price a i q e))
 
   pub in_place : turn_under rules (quote_in_force a i.security) i a.resting ≡ turn_fills rules a i
   in_place = under (quote_in_force a i.security) refl
 
 turn_active : (rules : Rules) (o : Option Quote) (i : Incoming) (ps : List Intent) → Each (λ (f : Fill). f.active ≡ active_number i.number) (turn_under rules o i ps)
 turn_active rules None i ps = tt
-turn_active rules (Some q) i ps = serve-active (active_number i.number) (rules.price q i.side) rules.mark i.volume (queue (rules.ahead i.subscriber) (keep (ready q (rules.price q i.side) i) ps))
+turn_active rules (Some q) i ps = serve_active (active_number i.number) (rules.price q i.side) rules.mark i.volume (queue (rules.ahead i.subscriber) (keep (ready q (rules.price q i.side) i) ps))
 
 -- WHO IS LEFT
 
@@ -83,15 +83,15 @@ written_whole page fs h =
 -- TABLES
 
 -- behind fewer intents than before, the freed places join the blanks
-pub laid-out-less : (count next : ℕ) (table rs : List Intent) → lawful_table count next table ≡ true → length rs ≤ count →
+pub laid_out_less : (count next : ℕ) (table rs : List Intent) → lawful_table count next table ≡ true → length rs ≤ count →
     rs ++ (replicate (count - length rs) blank_intent ++ drop count table) ≡ laid_out rs table
-laid-out-less count next table rs lawful short =
+laid_out_less count next table rs lawful short =
     let room : ℕ = capacity table in
-    let fits : count ≤ room = (table-parts count next table lawful).fits in
-    let many = lawful-count count next table lawful in
+    let fits : count ≤ room = (table_parts count next table lawful).fits in
+    let many = lawful_count count next table lawful in
     let beyond : List Intent = drop room table in
     let behind : drop count table ≡ replicate (room - count) blank_intent ++ beyond =
-    ap (drop count) (lawful-layout count next table lawful)
+    ap (drop count) (lawful_layout count next table lawful)
     ∙ drop_at (take count table) (replicate (room - length (take count table)) blank_intent ++ beyond) count many
     ∙ ap (λ (n : ℕ). replicate (room - n) blank_intent ++ beyond) many in
     let whole : count - length rs + (room - count) ≡ room - length rs = omega arith in
@@ -102,14 +102,14 @@ laid-out-less count next table rs lawful short =
     ∙ ap (λ (n : ℕ). replicate n blank_intent ++ beyond) whole)
 
 -- numbers of a lawful table are apart, by places
-pub lawful-distinct : (count next : ℕ) (table : List Intent) → lawful_table count next table ≡ true → Distinct table count
-lawful-distinct count next table lawful j k x y other e = ⊎_elim (λ l. apart j k l y e) (λ l. apart k j (omega arith) x (sym e)) (cases_lt j k)
+pub lawful_distinct : (count next : ℕ) (table : List Intent) → lawful_table count next table ≡ true → Distinct table count
+lawful_distinct count next table lawful j k x y other e = ⊎_elim (λ l. apart j k l y e) (λ l. apart k j (omega arith) x (sym e)) (cases_lt j k)
   where
     apart : (j k : ℕ) → j < k → k < count → (at table j).number ≡ (at table k).number → ⊥
     apart j k l y e =
         let ps : List Intent = take count table in
-        let many : length ps ≡ count = lawful-count count next table lawful in
-        let up : (at ps j).number < (at ps k).number = places-from-pairwise blank_intent (λ (p q : Intent). p.number < q.number) ps (lawful-rising 0 next ps (table-parts count next table lawful).intents) j k l (omega arith) in
+        let many : length ps ≡ count = lawful_count count next table lawful in
+        let up : (at ps j).number < (at ps k).number = places_from_pairwise blank_intent (λ (p q : Intent). p.number < q.number) ps (lawful_rising 0 next ps (table_parts count next table lawful).intents) j k l (omega arith) in
         let one = ap (λ (p : Intent). p.number) (get_or-take count table j blank_intent (omega arith)) in
         let two = ap (λ (p : Intent). p.number) (get_or-take count table k blank_intent y) in
         omega arith
@@ -124,15 +124,15 @@ module _ (rules : Rules) (m : Memory) (i : Incoming) (lawful : lawful_table m.co
   fs = turn_fills rules (account m) i
 
   intents : lawful_intents 0 m.next ps ≡ true
-  intents = (table-parts m.count m.next m.table lawful).intents
+  intents = (table_parts m.count m.next m.table lawful).intents
 
   same_fills : turn_under rules o i ps ≡ fs
-  same_fills = ap (λ (q : Option Quote). turn_under rules q i ps) quote ∙ in_place rules (account m) i (lawful-left 0 m.next ps intents)
+  same_fills = ap (λ (q : Option Quote). turn_under rules q i ps) quote ∙ in_place rules (account m) i (lawful_left 0 m.next ps intents)
 
   passive_only : Each (λ (p : Intent). traded p.number fs ≡ given fs p.number) ps
   passive_only =
       let active : Each (λ (f : Fill). f.active ≡ active_number i.number) fs = subst (Each (λ (f : Fill). f.active ≡ active_number i.number)) same_fills (turn_active rules o i ps) in
-      each-weaker _ _ (λ p h. traded-passive p.number fs (each-weaker _ _ (λ f e k. not_active i.number m.next p.number new h.0 h.1 (sym e ∙ k)) fs active)) ps (lawful-numbers 0 m.next ps intents)
+      each_weaker _ _ (λ p h. traded_passive p.number fs (each_weaker _ _ (λ f e k. not_active i.number m.next p.number new h.0 h.1 (sym e ∙ k)) fs active)) ps (lawful_numbers 0 m.next ps intents)
 
   -- what a turn in place and a closing up come to
   pub matched : (table table' : List Intent) (page' : List Slip) (count' : ℕ) (r : Turned) → m.count ≤ length m.page →
@@ -142,14 +142,14 @@ module _ (rules : Rules) (m : Memory) (i : Incoming) (lawful : lawful_table m.co
   matched table table' page' count' r room handed beyond counted closed =
       let rs : List Intent = lessen fs ps in
       let left : keep live (take m.count table) ≡ rs = ap (keep live) handed.table ∙ ap (λ (gs : List Fill). keep live (map (relieved gs) ps)) same_fills ∙ closed_lessen fs ps passive_only in
-      let many = lawful-count m.count m.next m.table lawful in
+      let many = lawful_count m.count m.next m.table lawful in
       let count_is : count' ≡ length rs = counted ∙ ap length left in
       let table_is : table' ≡ laid_out rs m.table =
       closed ∙ ap (λ (l : List Intent). l ++ (replicate (m.count - count') blank_intent ++ drop m.count table)) left
       ∙ ap (λ (n : ℕ). rs ++ (replicate (m.count - n) blank_intent ++ drop m.count table)) count_is
       ∙ ap (λ (l : List Intent). rs ++ (replicate (m.count - length rs) blank_intent ++ l)) beyond
-      ∙ laid-out-less m.count m.next m.table rs lawful (omega (arith, lessen-short fs ps)) in
-      let few : length fs ≤ length m.page = omega (arith, handed.few, handed.counted, ap length same_fills, keep-short live ps) in
+      ∙ laid_out_less m.count m.next m.table rs lawful (omega (arith, lessen_short fs ps)) in
+      let few : length fs ≤ length m.page = omega (arith, handed.few, handed.counted, ap length same_fills, keep_short live ps) in
       let page_is : page' ≡ written (map Filled fs) m.page = handed.pages ∙ ap (written_from m.page 0) same_fills ∙ written_whole m.page fs few in
       record {
         slips = handed.counted ∙ ap length same_fills;

@@ -10,9 +10,9 @@ use Rattle.law.specs.Models.{place, queue}
 use Rattle.rules.specs.Blanks.{blank_intent}
 use Rattle.ledger.specs.Places.{at}
 use Rattle.book.specs.InPlace.{Distinct}
-use Rattle.law.proofs.Lists.{each-kept}
-use Rattle.law.proofs.Places.{each-from-places}
-use Rattle.law.proofs.Queue.{each-queue}
+use Rattle.law.proofs.Lists.{each_kept}
+use Rattle.law.proofs.Places.{each_from_places}
+use Rattle.law.proofs.Queue.{each_queue}
 
 module _ (ahead : Standing → Standing → Bool) where
   pub place_first : (p : Intent) (qs : List Intent) → Each (λ (q : Intent). ahead (standing p) (standing q) ≡ true) qs → place ahead p qs ≡ p ∷ qs
@@ -28,21 +28,21 @@ abbrev pub Best : (Standing → Standing → Bool) → (Intent → Bool) → Lis
 Best ahead t ps i = (k : ℕ) → k < length ps → (k ≡ i → ⊥) → t (at ps k) ≡ true → ahead (standing (at ps k)) (standing (at ps i)) ≡ false
 
 module _ (ahead : Standing → Standing → Bool) (sided : Sided ahead) (t : Intent → Bool) (emptied : (p : Intent) → t (with_left p 0) ≡ false) where
-  pub queue-head : (ps : List Intent) (i : ℕ) → i < length ps → t (at ps i) ≡ true → Distinct ps (length ps) → Best ahead t ps i →
+  pub queue_head : (ps : List Intent) (i : ℕ) → i < length ps → t (at ps i) ≡ true → Distinct ps (length ps) → Best ahead t ps i →
       queue ahead (keep t ps) ≡ at ps i ∷ queue ahead (keep t (set ps i (with_left (at ps i) 0)))
-  queue-head [] i l r d b = absurd (omega arith)
-  queue-head (p ∷ ps) zero l r d b =
+  queue_head [] i l r d b = absurd (omega arith)
+  queue_head (p ∷ ps) zero l r d b =
       let behind : Each (λ (q : Intent). t q ≡ true → ahead (standing p) (standing q) ≡ true) ps =
-      each-from-places blank_intent (λ (q : Intent). t q ≡ true → ahead (standing p) (standing q) ≡ true) ps
+      each_from_places blank_intent (λ (q : Intent). t q ≡ true → ahead (standing p) (standing q) ≡ true) ps
       (λ k h e. sided (standing p) (standing (at ps k)) (d 0 (suc k) (omega arith) (omega arith) (λ x. omega arith)) ∙ ap not (b (suc k) (omega arith) (λ x. omega arith) e)) in
       let firsts : Each (λ (q : Intent). ahead (standing p) (standing q) ≡ true) (queue ahead (keep t ps)) =
-      each-queue ahead (λ (q : Intent). ahead (standing p) (standing q) ≡ true) (keep t ps)
-      (each-kept (λ (q : Intent). t q ≡ true → ahead (standing p) (standing q) ≡ true) (λ (q : Intent). ahead (standing p) (standing q) ≡ true) t (λ q e h. h e) ps behind) in
+      each_queue ahead (λ (q : Intent). ahead (standing p) (standing q) ≡ true) (keep t ps)
+      (each_kept (λ (q : Intent). t q ≡ true → ahead (standing p) (standing q) ≡ true) (λ (q : Intent). ahead (standing p) (standing q) ≡ true) t (λ q e h. h e) ps behind) in
       ap (queue ahead) (cond-true (t p) (p ∷ keep t ps) (keep t ps) r)
       ∙ place_first ahead p (queue ahead (keep t ps)) firsts
       ∙ sym (ap (λ (l : List Intent). p ∷ queue ahead l) (cond-false (t (with_left p 0)) (with_left p 0 ∷ keep t ps) (keep t ps) (emptied p)))
-  queue-head (p ∷ ps) (suc i) l r d b =
-      go (t p) refl (queue-head ps i (omega arith) r (λ j k x y z. d (suc j) (suc k) (omega arith) (omega arith) (λ e. z (omega arith))) (λ k x y. b (suc k) (omega arith) (λ e. y (omega arith))))
+  queue_head (p ∷ ps) (suc i) l r d b =
+      go (t p) refl (queue_head ps i (omega arith) r (λ j k x y z. d (suc j) (suc k) (omega arith) (omega arith) (λ e. z (omega arith))) (λ k x y. b (suc k) (omega arith) (λ e. y (omega arith))))
     where
       go : (v : Bool) → t p ≡ v → queue ahead (keep t ps) ≡ at ps i ∷ queue ahead (keep t (set ps i (with_left (at ps i) 0))) →
           queue ahead (cond v (p ∷ keep t ps) (keep t ps)) ≡ at ps i ∷ queue ahead (cond v (p ∷ keep t (set ps i (with_left (at ps i) 0))) (keep t (set ps i (with_left (at ps i) 0))))

@@ -16,10 +16,10 @@ use Rattle.law.specs.Models.{queue, serve}
 use Rattle.rules.specs.Blanks.{blank_intent}
 use Rattle.ledger.specs.Places.{at, live}
 use Rattle.book.specs.InPlace.{ready, Distinct, Foremost, Nowhere, turn_of, relieved, written_from, alive, Handed}
-use Rattle.law.proofs.Lists.{keep-none}
-use Rattle.law.proofs.Places.{each-from-places}
-use Rattle.law.proofs.Serve.{serve-spent}
-use Rattle.book.proofs.Queueing.{Sided, queue-head}
+use Rattle.law.proofs.Lists.{keep_none}
+use Rattle.law.proofs.Places.{each_from_places}
+use Rattle.law.proofs.Serve.{serve_spent}
+use Rattle.book.proofs.Queueing.{Sided, queue_head}
 
 pub emptied : (q : Quote) (price : ℕ) (i : Incoming) (p : Intent) → ready q price i (with_left p 0) ≡ false
 unfolding ready
@@ -70,11 +70,11 @@ module _ (ahead : Standing → Standing → Bool) (q : Quote) (price mark : ℕ)
   slip p v = record { active = active_number i.number; passive = p.number; volume = v; price = price; mark = mark }
 
   pub turn_spent : (left : ℕ) (ps : List Intent) → left ≡ 0 → turn_of ahead q price mark i left ps ≡ []
-  turn_spent left ps h = serve-spent (active_number i.number) price mark left h (queue ahead (keep (ready q price i) ps))
+  turn_spent left ps h = serve_spent (active_number i.number) price mark left h (queue ahead (keep (ready q price i) ps))
 
   pub turn_none : (left : ℕ) (ps : List Intent) → Nowhere (ready q price i) ps (length ps) → turn_of ahead q price mark i left ps ≡ []
   turn_none left ps h =
-      ap (λ (l : List Intent). serve (active_number i.number) price mark left (queue ahead l)) (keep-none (ready q price i) ps (each-from-places blank_intent (λ (p : Intent). ready q price i p ≡ false) ps h))
+      ap (λ (l : List Intent). serve (active_number i.number) price mark left (queue ahead l)) (keep_none (ready q price i) ps (each_from_places blank_intent (λ (p : Intent). ready q price i p ≡ false) ps h))
 
   pub turn_more : Sided ahead → (left : ℕ) (ps : List Intent) (k : ℕ) → 0 < left → Distinct ps (length ps) → Foremost ahead (ready q price i) ps (length ps) k →
       turn_of ahead q price mark i left ps ≡ slip (at ps k) (min (at ps k).remaining left) ∷ turn_of ahead q price mark i (left - min (at ps k).remaining left) (set ps k (less (at ps k) (min (at ps k).remaining left)))
@@ -82,14 +82,14 @@ module _ (ahead : Standing → Standing → Bool) (q : Quote) (price mark : ℕ)
       let p : Intent = at ps k in
       let v : ℕ = min p.remaining left in
       let rest : List Intent = queue ahead (keep (ready q price i) (set ps k (with_left p 0))) in
-      ap (λ (l : List Intent). serve (active_number i.number) price mark left l) (queue-head ahead sided (ready q price i) (emptied q price i) ps k best.within best.ready_there d best.best)
+      ap (λ (l : List Intent). serve (active_number i.number) price mark left l) (queue_head ahead sided (ready q price i) (emptied q price i) ps k best.within best.ready_there d best.best)
       ∙ cond-true (ltb 0 left) (slip p v ∷ serve (active_number i.number) price mark (left - v) rest) [] (lt-ltb 0 left some)
       ∙ ap (λ (l : List Fill). slip p v ∷ l)
       (⊎_elim
       (λ (more : 0 < left - v).
       let none : 0 ≡ p.remaining - v = omega arith in
       ap (λ (w : ℕ). turn_of ahead q price mark i (left - v) (set ps k (with_left p w))) none)
-      (λ (spent : left - v ≤ 0). serve-spent (active_number i.number) price mark (left - v) (omega arith) rest ∙ sym (turn_spent (left - v) (set ps k (less p v)) (omega arith)))
+      (λ (spent : left - v ≤ 0). serve_spent (active_number i.number) price mark (left - v) (omega arith) rest ∙ sym (turn_spent (left - v) (set ps k (less p v)) (omega arith)))
       (cases_lt 0 (left - v)))
 
 -- an intent that is emptied is one less with something left
@@ -116,9 +116,9 @@ pub record Underway (ahead : Standing → Standing → Bool) (q : Quote) (price 
   pub lessened : map (relieved (turn_of ahead q price mark i left ps')) ps' ≡ map (relieved fs) ps
   pub apart : Distinct ps' (length ps')
 
-pub ready-live : (q : Quote) (price : ℕ) (i : Incoming) (p : Intent) → ready q price i p ≡ true → 0 < p.remaining
+pub ready_live : (q : Quote) (price : ℕ) (i : Incoming) (p : Intent) → ready q price i p ≡ true → 0 < p.remaining
 unfolding ready
-ready-live q price i p h = ltb-true 0 p.remaining (and_parts (ltb 0 p.remaining) _ h).0
+ready_live q price i p h = ltb-true 0 p.remaining (and_parts (ltb 0 p.remaining) _ h).0
 
 module _ {ahead : Standing → Standing → Bool} {q : Quote} {price mark : ℕ} {i : Incoming} {from : ℕ} {ps : List Intent} {page : List Slip} {volume : ℕ} {fs : List Fill}
     {left : ℕ} {ps' : List Intent} {page' : List Slip} {count : ℕ} (u : Underway ahead q price mark i from ps page volume fs left ps' page' count) where
@@ -135,11 +135,11 @@ module _ {ahead : Standing → Standing → Bool} {q : Quote} {price mark : ℕ}
         table = sym (ap (λ (gs : List Fill). map (relieved gs) ps') e ∙ relieved_none ps') ∙ u.lessened;
       }
 
-  pub underway-spent : left ≤ 0 → Handed fs volume ps ps' page page' from (record { slips = count; left = left })
-  underway-spent h = underway_end (turn_spent ahead q price mark i left ps' (omega arith))
+  pub underway_spent : left ≤ 0 → Handed fs volume ps ps' page page' from (record { slips = count; left = left })
+  underway_spent h = underway_end (turn_spent ahead q price mark i left ps' (omega arith))
 
-  pub underway-none : Nowhere (ready q price i) ps' (length ps') → Handed fs volume ps ps' page page' from (record { slips = count; left = left })
-  underway-none h = underway_end (turn_none ahead q price mark i left ps' h)
+  pub underway_none : Nowhere (ready q price i) ps' (length ps') → Handed fs volume ps ps' page page' from (record { slips = count; left = left })
+  underway_none h = underway_end (turn_none ahead q price mark i left ps' h)
 
   module _ (sided : Sided ahead) (k : ℕ) (some : 0 < left) (best : Foremost ahead (ready q price i) ps' (length ps') k) (v : ℕ) (is : v ≡ min (at ps' k).remaining left) where
     pub underway_next : turn_of ahead q price mark i left ps' ≡ slip ahead q price mark i (at ps' k) v ∷ turn_of ahead q price mark i (left - v) (set ps' k (less (at ps' k) v))
@@ -147,21 +147,21 @@ module _ {ahead : Standing → Standing → Bool} {q : Quote} {price mark : ℕ}
         turn_more ahead q price mark i sided left ps' k some u.apart best
         ∙ sym (ap (λ (w : ℕ). slip ahead q price mark i (at ps' k) w ∷ turn_of ahead q price mark i (left - w) (set ps' k (less (at ps' k) w))) is)
 
-    pub underway-room : count + 1 ≤ alive ps
-    underway-room = omega (arith, u.emptied_each, alive_set ps' k 0 best.within (ready-live q price i (at ps' k) best.ready_there))
+    pub underway_room : count + 1 ≤ alive ps
+    underway_room = omega (arith, u.emptied_each, alive_set ps' k 0 best.within (ready_live q price i (at ps' k) best.ready_there))
 
-    pub underway-more : Underway ahead q price mark i from ps page volume fs (left - v) (set ps' k (less (at ps' k) v)) (set page' (from + count) (Filled (slip ahead q price mark i (at ps' k) v))) (count + 1)
-    underway-more =
+    pub underway_more : Underway ahead q price mark i from ps page volume fs (left - v) (set ps' k (less (at ps' k) v)) (set page' (from + count) (Filled (slip ahead q price mark i (at ps' k) v))) (count + 1)
+    underway_more =
         let f : Fill = slip ahead q price mark i (at ps' k) v in
         let rest : List Fill = turn_of ahead q price mark i (left - v) (set ps' k (less (at ps' k) v)) in
         let long : length (set ps' k (less (at ps' k) v)) ≡ length ps' = length-set ps' k (less (at ps' k) v) in
-        let taken = alive_set ps' k ((at ps' k).remaining - v) best.within (ready-live q price i (at ps' k) best.ready_there) in
-        let some_left : 0 < (at ps' k).remaining = ready-live q price i (at ps' k) best.ready_there in
+        let taken = alive_set ps' k ((at ps' k).remaining - v) best.within (ready_live q price i (at ps' k) best.ready_there) in
+        let some_left : 0 < (at ps' k).remaining = ready_live q price i (at ps' k) best.ready_there in
         let on : from + (count + 1) ≡ from + count + 1 = omega arith in
         record {
           slips = omega (arith, u.slips, ap length underway_next);
           rest = omega (arith, u.rest, ap volume_of underway_next);
-          few = underway-room;
+          few = underway_room;
           emptied_each = omega (arith, u.emptied_each, taken);
           written_on = ap (λ (n : ℕ). written_from (set page' (from + count) (Filled f)) n rest) on ∙ sym (ap (written_from page' (from + count)) underway_next) ∙ u.written_on;
           lessened = sym (relieved_more ps' k v f rest best.within u.apart refl refl) ∙ sym (ap (λ (gs : List Fill). map (relieved gs) ps') underway_next) ∙ u.lessened;
@@ -169,6 +169,6 @@ module _ {ahead : Standing → Standing → Bool} {q : Quote} {price mark : ℕ}
         }
 
 -- nothing is handed out
-pub handed-none : (volume : ℕ) (ps : List Intent) (page : List Slip) (from : ℕ) → Handed [] volume ps ps page page from (record { slips = 0; left = volume })
-handed-none volume ps page from =
+pub handed_none : (volume : ℕ) (ps : List Intent) (page : List Slip) (from : ℕ) → Handed [] volume ps ps page page from (record { slips = 0; left = volume })
+handed_none volume ps page from =
     record { counted = refl; rest = omega arith; pages = refl; table = sym (relieved_none ps); few = omega arith; emptied = omega arith }

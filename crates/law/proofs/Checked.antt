@@ -11,11 +11,11 @@ pub ok_err : {A : Type 0} {x : A} {e : Refusal} → ◌≡◌ {A = Result A Refu
 ok_err {A} {x} {e} k = let z : ◌≡◌ {A = ℕ} 0 1 = cc in omega arith
 
 -- all tests hold of what comes out
-pub checked-passes : {A : Type 0} (cs : List Check) (x x' : A) → checked cs x ≡ Ok x' → Each (λ (c : Check). c.0 ≡ true) cs
-checked-passes [] x x' h = tt
-checked-passes {A} (c ∷ cs) x x' h =
+pub checked_passes : {A : Type 0} (cs : List Check) (x x' : A) → checked cs x ≡ Ok x' → Each (λ (c : Check). c.0 ≡ true) cs
+checked_passes [] x x' h = tt
+checked_passes {A} (c ∷ cs) x x' h =
     cond_both c.0 (checked cs x) (Err c.1) (λ (r : Result A Refusal). r ≡ Ok x' → Each (λ (c : Check). c.0 ≡ true) (c ∷ cs))
-    (λ e k. (e, checked-passes cs x x' k)) (λ _ k. absurd (ok_err (sym k))) h
+    (λ e k. (e, checked_passes cs x x' k)) (λ _ k. absurd (ok_err (sym k))) h
 
 -- where all tests hold, it comes out as it is
 pub passes_checked : {A : Type 0} (cs : List Check) (x : A) → Each (λ (c : Check). c.0 ≡ true) cs → checked cs x ≡ Ok x
@@ -23,23 +23,23 @@ passes_checked [] x h = refl
 passes_checked (c ∷ cs) x h = cond-true c.0 (checked cs x) (Err c.1) h.0 ∙ passes_checked cs x h.1
 
 -- what passes for one value passes for any other
-pub checked-ok : {A B : Type 0} (cs : List Check) (x x' : A) (y : B) → checked cs x ≡ Ok x' → checked cs y ≡ Ok y
-checked-ok cs x x' y h = passes_checked cs y (checked-passes cs x x' h)
+pub checked_ok : {A B : Type 0} (cs : List Check) (x x' : A) (y : B) → checked cs x ≡ Ok x' → checked cs y ≡ Ok y
+checked_ok cs x x' y h = passes_checked cs y (checked_passes cs x x' h)
 
 -- and what is refused for one value is refused alike for any other
-pub checked-err : {A B : Type 0} (cs : List Check) (x : A) (y : B) (e : Refusal) → checked cs x ≡ Err e → checked cs y ≡ Err e
-checked-err [] x y e h = absurd (ok_err h)
-checked-err {A} (c ∷ cs) x y e h =
+pub checked_err : {A B : Type 0} (cs : List Check) (x : A) (y : B) (e : Refusal) → checked cs x ≡ Err e → checked cs y ≡ Err e
+checked_err [] x y e h = absurd (ok_err h)
+checked_err {A} (c ∷ cs) x y e h =
     cond_both c.0 (checked cs x) (Err c.1) (λ (r : Result A Refusal). r ≡ Err e → checked (c ∷ cs) y ≡ Err e)
-    (λ t k. cond-true c.0 (checked cs y) (Err c.1) t ∙ checked-err cs x y e k)
+    (λ t k. cond-true c.0 (checked cs y) (Err c.1) t ∙ checked_err cs x y e k)
     (λ f k. let same : c.1 ≡ e = cc in cond-false c.0 (checked cs y) (Err c.1) f ∙ ap Err same) h
 
 -- AFTERWARDS
 
 -- what is accepted goes on
-pub unless-ok : {A B : Type 0} (cs : List Check) (z z' : B) (x y : A) → checked cs z ≡ Ok z' → unless_refused cs x y ≡ x
-unless-ok cs z z' x y h = ap (λ (r : Result (Unit {0}) Refusal). cond (is_ok r) x y) (checked-ok cs z z' tt h)
+pub unless_ok : {A B : Type 0} (cs : List Check) (z z' : B) (x y : A) → checked cs z ≡ Ok z' → unless_refused cs x y ≡ x
+unless_ok cs z z' x y h = ap (λ (r : Result (Unit {0}) Refusal). cond (is_ok r) x y) (checked_ok cs z z' tt h)
 
 -- what is refused stays as it was
-pub unless-err : {A B : Type 0} (cs : List Check) (z : B) (e : Refusal) (x y : A) → checked cs z ≡ Err e → unless_refused cs x y ≡ y
-unless-err cs z e x y h = ap (λ (r : Result (Unit {0}) Refusal). cond (is_ok r) x y) (checked-err cs z tt e h)
+pub unless_err : {A B : Type 0} (cs : List Check) (z : B) (e : Refusal) (x y : A) → checked cs z ≡ Err e → unless_refused cs x y ≡ y
+unless_err cs z e x y h = ap (λ (r : Result (Unit {0}) Refusal). cond (is_ok r) x y) (checked_err cs z tt e h)

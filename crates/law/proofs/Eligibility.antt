@@ -12,19 +12,19 @@ use Rattle.rules.specs.Securities.{unlisted, is_regular, is_open}
 use Rattle.law.specs.Lists.{keep, Each, Pairwise}
 use Rattle.law.specs.Accounts.{Account, security, quote_in_force, eligible_for, find}
 use Rattle.law.specs.Turns.{LawfulIfAny, Sound}
-use Rattle.law.proofs.Lists.{each-getD, each_keep, pairwise-keep}
-use Rattle.law.proofs.Numbers.{Apart, rising-apart, find-each}
+use Rattle.law.proofs.Lists.{each_getD, each_keep, pairwise_keep}
+use Rattle.law.proofs.Numbers.{Apart, rising_apart, find_each}
 
 module _ (a : Account) (sound : Sound a) where
   -- no two resting intents have the same number
   pub resting_apart : Pairwise Apart a.resting
-  resting_apart = rising-apart a.resting sound.rising
+  resting_apart = rising_apart a.resting sound.rising
 
   -- the quote in force, if any, is lawful
-  pub in-force-lawful : (s : ℕ) → LawfulIfAny (quote_in_force a s)
-  in-force-lawful s =
+  pub in_force_lawful : (s : ℕ) → LawfulIfAny (quote_in_force a s)
+  in_force_lawful s =
       cond_both (is_regular a.phase && is_open (security a s).state) (security a s).quote None LawfulIfAny
-      (λ _. each-getD (λ (x : Security). LawfulIfAny x.quote) a.securities s unlisted tt sound.quotes) (λ _. tt)
+      (λ _. each_getD (λ (x : Security). LawfulIfAny x.quote) a.securities s unlisted tt sound.quotes) (λ _. tt)
 
 -- ONE INTENT
 
@@ -37,37 +37,37 @@ and_T_right true y t = t
 and_T_right false y t = absurd t
 
 -- what is eligible is within both limits
-pub eligible-within : (q : Quote) (price : ℕ) (i : Incoming) (p : Intent) → T (eligible q price i p) →
+pub eligible_within : (q : Quote) (price : ℕ) (i : Incoming) (p : Intent) → T (eligible q price i p) →
     T (within_limit p.side p.limit price) × T (within_any_limit i.side i.limit price)
-eligible-within q price i p h = (search (and_T_left, and_T_right), search (and_T_left, and_T_right) depth 7)
+eligible_within q price i p h = (search (and_T_left, and_T_right), search (and_T_left, and_T_right) depth 7)
 
 -- WHAT IS ELIGIBLE
 
 module _ (price : Quote → Side → ℕ) (a : Account) (i : Incoming) where
   -- nobody is eligible where no quote is in force
-  pub eligible-none : quote_in_force a i.security ≡ None → eligible_for price a i ≡ []
-  eligible-none e = rw e
+  pub eligible_none : quote_in_force a i.security ≡ None → eligible_for price a i ≡ []
+  eligible_none e = rw e
 
   -- under a quote in force, those that pass the test are
-  pub eligible-some : (q : Quote) → quote_in_force a i.security ≡ Some q → eligible_for price a i ≡ keep (eligible q (price q i.side) i) a.resting
-  eligible-some q e = rw e
+  pub eligible_some : (q : Quote) → quote_in_force a i.security ≡ Some q → eligible_for price a i ≡ keep (eligible q (price q i.side) i) a.resting
+  eligible_some q e = rw e
 
   -- the eligible ones are a part of those that rest
   eligible_part : (Q : List Intent → Type 0) → Q [] → ((t : Intent → Bool) → Q (keep t a.resting)) → Q (eligible_for price a i)
   eligible_part Q none some = under (quote_in_force a i.security) refl
     where
       under : (o : Option Quote) → quote_in_force a i.security ≡ o → Q (eligible_for price a i)
-      under None e = rw (eligible-none e) none
-      under (Some q) e = rw (eligible-some q e) (some (eligible q (price q i.side) i))
+      under None e = rw (eligible_none e) none
+      under (Some q) e = rw (eligible_some q e) (some (eligible q (price q i.side) i))
 
   -- what holds of all that rest holds of the eligible ones
-  pub each-eligible : (P : Intent → Type 0) → Each P a.resting → Each P (eligible_for price a i)
-  each-eligible P h = eligible_part (Each P) tt (λ t. each_keep P t a.resting h)
+  pub each_eligible : (P : Intent → Type 0) → Each P a.resting → Each P (eligible_for price a i)
+  each_eligible P h = eligible_part (Each P) tt (λ t. each_keep P t a.resting h)
 
   module _ (sound : Sound a) where
-    pub eligible-apart : Pairwise Apart (eligible_for price a i)
-    eligible-apart = eligible_part (Pairwise Apart) tt (λ t. pairwise-keep Apart t a.resting (resting_apart a sound))
+    pub eligible_apart : Pairwise Apart (eligible_for price a i)
+    eligible_apart = eligible_part (Pairwise Apart) tt (λ t. pairwise_keep Apart t a.resting (resting_apart a sound))
 
     -- each eligible intent is the resting one under its number
-    pub eligible-resting : Each (λ (p : Intent). find p.number a.resting ≡ Some p) (eligible_for price a i)
-    eligible-resting = each-eligible _ (find-each a.resting (resting_apart a sound))
+    pub eligible_resting : Each (λ (p : Intent). find p.number a.resting ≡ Some p) (eligible_for price a i)
+    eligible_resting = each_eligible _ (find_each a.resting (resting_apart a sound))

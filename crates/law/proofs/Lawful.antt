@@ -11,7 +11,7 @@ use Rattle.rules.specs.Intents.{in_range, is_buy, is_blank}
 use Rattle.law.specs.Lists.{every, Each}
 use Rattle.law.specs.Memories.{Memory, capacity, account, lawful_intents, lawful_table, laid_out}
 use Rattle.law.specs.Turns.{LawfulQuotes, Sound}
-use Rattle.law.proofs.Lists.{each-weaker}
+use Rattle.law.proofs.Lists.{each_weaker}
 use Rattle.law.proofs.Numbers.{Rising}
 
 -- LAWFUL INTENTS
@@ -37,26 +37,26 @@ lawful_ranges last next [] h = tt
 lawful_ranges last next (p ∷ ps) h = let first = lawful_first last next p ps h in (first.range, lawful_ranges p.number next ps first.others)
 
 -- every number is above the last one before, and below the next one to be given
-pub lawful-numbers : (last next : ℕ) (ps : List Intent) → lawful_intents last next ps ≡ true → Each (λ (p : Intent). (last < p.number) × (p.number < next)) ps
-lawful-numbers last next [] h = tt
-lawful-numbers last next (p ∷ ps) h =
+pub lawful_numbers : (last next : ℕ) (ps : List Intent) → lawful_intents last next ps ≡ true → Each (λ (p : Intent). (last < p.number) × (p.number < next)) ps
+lawful_numbers last next [] h = tt
+lawful_numbers last next (p ∷ ps) h =
     let first = lawful_first last next p ps h in
-    ((first.above, first.below), each-weaker _ _ (λ q k. (omega arith, k.1)) ps (lawful-numbers p.number next ps first.others))
+    ((first.above, first.below), each_weaker _ _ (λ q k. (omega arith, k.1)) ps (lawful_numbers p.number next ps first.others))
 
 -- the numbers rise
-pub lawful-rising : (last next : ℕ) (ps : List Intent) → lawful_intents last next ps ≡ true → Rising ps
-lawful-rising last next [] h = tt
-lawful-rising last next (p ∷ ps) h =
+pub lawful_rising : (last next : ℕ) (ps : List Intent) → lawful_intents last next ps ≡ true → Rising ps
+lawful_rising last next [] h = tt
+lawful_rising last next (p ∷ ps) h =
     let first = lawful_first last next p ps h in
-    (each-weaker _ _ (λ q k. k.0) ps (lawful-numbers p.number next ps first.others), lawful-rising p.number next ps first.others)
+    (each_weaker _ _ (λ q k. k.0) ps (lawful_numbers p.number next ps first.others), lawful_rising p.number next ps first.others)
 
 -- an intent in range has something left
 pub in_range_left : (p : Intent) → in_range p ≡ true → 1 ≤ p.remaining
 in_range_left p h = grind (arith, nat_tests)
 
 -- every intent has something left
-pub lawful-left : (last next : ℕ) (ps : List Intent) → lawful_intents last next ps ≡ true → Each (λ (p : Intent). 1 ≤ p.remaining) ps
-lawful-left last next ps h = each-weaker _ _ in_range_left ps (lawful_ranges last next ps h)
+pub lawful_left : (last next : ℕ) (ps : List Intent) → lawful_intents last next ps ≡ true → Each (λ (p : Intent). 1 ≤ p.remaining) ps
+lawful_left last next ps h = each_weaker _ _ in_range_left ps (lawful_ranges last next ps h)
 
 -- BLANKS
 
@@ -105,24 +105,24 @@ pub record LawfulTable (count next : ℕ) (table : List Intent) : Type 0 where
   pub intents : lawful_intents 0 next (take count table) ≡ true
   pub blanks : every is_blank (drop count (take (capacity table) table)) ≡ true
 
-pub table-parts : (count next : ℕ) (table : List Intent) → lawful_table count next table ≡ true → LawfulTable count next table
-table-parts count next table h =
+pub table_parts : (count next : ℕ) (table : List Intent) → lawful_table count next table ≡ true → LawfulTable count next table
+table_parts count next table h =
     let one = and_parts (leb count (capacity table)) _ h in
     let two = and_parts (lawful_intents 0 next (take count table)) _ one.1 in
     record { fits = leb-true count (capacity table) one.0; intents = two.0; blanks = two.1 }
 
 -- as many intents rest as are counted
-pub lawful-count : (count next : ℕ) (table : List Intent) → lawful_table count next table ≡ true → length (take count table) ≡ count
-lawful-count count next table h = let fits = (table-parts count next table h).fits in length-take-le count table (omega arith)
+pub lawful_count : (count next : ℕ) (table : List Intent) → lawful_table count next table ≡ true → length (take count table) ≡ count
+lawful_count count next table h = let fits = (table_parts count next table h).fits in length-take-le count table (omega arith)
 
 -- behind the intents come blanks up to the capacity, and then what stands beyond it
-pub lawful-layout : (count next : ℕ) (table : List Intent) → lawful_table count next table ≡ true → table ≡ laid_out (take count table) table
-lawful-layout count next table h =
-    let parts = table-parts count next table h in
+pub lawful_layout : (count next : ℕ) (table : List Intent) → lawful_table count next table ≡ true → table ≡ laid_out (take count table) table
+lawful_layout count next table h =
+    let parts = table_parts count next table h in
     let room : ℕ = capacity table in
     let inside : List Intent = take room table in
     let fits : count ≤ room = parts.fits in
-    let many : length (drop count inside) ≡ room - length (take count table) = length-drop count inside ∙ omega (arith, length-take room table, lawful-count count next table h) in
+    let many : length (drop count inside) ≡ room - length (take count table) = length-drop count inside ∙ omega (arith, length-take room table, lawful_count count next table h) in
     let blanks : drop count inside ≡ replicate (room - length (take count table)) blank_intent = blanks_are (drop count inside) parts.blanks ∙ ap (λ (n : ℕ). replicate n blank_intent) many in
     let front : inside ≡ take count table ++ replicate (room - length (take count table)) blank_intent = sym (take-append-drop count inside) ∙ ap₂ ◌++◌ (take-take count room table fits) blanks in
     sym (take-append-drop room table) ∙ ap (λ (ps : List Intent). ps ++ drop room table) front ∙ append_assoc (take count table) _ (drop room table)
@@ -130,13 +130,13 @@ lawful-layout count next table h =
 -- THE ACCOUNT
 
 -- the account of a lawful table and lawful quotes is sound
-pub sound-account : (m : Memory) → lawful_table m.count m.next m.table ≡ true → LawfulQuotes m.securities → Sound (account m)
-sound-account m h quotes =
+pub sound_account : (m : Memory) → lawful_table m.count m.next m.table ≡ true → LawfulQuotes m.securities → Sound (account m)
+sound_account m h quotes =
     let ps : List Intent = take m.count m.table in
-    let intents : lawful_intents 0 m.next ps ≡ true = (table-parts m.count m.next m.table h).intents in
+    let intents : lawful_intents 0 m.next ps ≡ true = (table_parts m.count m.next m.table h).intents in
     record {
-      rising = lawful-rising 0 m.next ps intents;
-      numbers = each-weaker _ _ (λ p k. (omega arith, k.1)) ps (lawful-numbers 0 m.next ps intents);
-      something_left = lawful-left 0 m.next ps intents;
+      rising = lawful_rising 0 m.next ps intents;
+      numbers = each_weaker _ _ (λ p k. (omega arith, k.1)) ps (lawful_numbers 0 m.next ps intents);
+      something_left = lawful_left 0 m.next ps intents;
       quotes = quotes;
     }

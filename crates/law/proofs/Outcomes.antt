@@ -7,17 +7,17 @@ use Rattle.law.specs.Checks.{checked, checks}
 use Rattle.law.specs.Memories.{Memory, account}
 use Rattle.law.specs.Outcomes.{call_fills, accepted, outcome, after}
 use Rattle.law.specs.Turns.{Rules}
-use Rattle.law.proofs.Checked.{unless-ok, unless-err}
+use Rattle.law.proofs.Checked.{unless_ok, unless_err}
 
 module _ (rules : Rules) (m : Memory) (c : Call) where
-  pub outcome-is : outcome rules m c ≡ checked (checks m c) (answer_of (account m) c (call_fills rules (account m) c))
+  pub outcome_is : outcome rules m c ≡ checked (checks m c) (answer_of (account m) c (call_fills rules (account m) c))
   unfolding outcome
-  outcome-is = refl
+  outcome_is = refl
 
-  pub after-accepted : {B : Type 0} (z z' : B) → checked (checks m c) z ≡ Ok z' → after rules m c ≡ accepted rules m c
+  pub after_accepted : {B : Type 0} (z z' : B) → checked (checks m c) z ≡ Ok z' → after rules m c ≡ accepted rules m c
   unfolding after
-  after-accepted z z' e = unless-ok (checks m c) z z' (accepted rules m c) m e
+  after_accepted z z' e = unless_ok (checks m c) z z' (accepted rules m c) m e
 
-  pub after-refused : {B : Type 0} (z : B) (r : Refusal) → checked (checks m c) z ≡ Err r → after rules m c ≡ m
+  pub after_refused : {B : Type 0} (z : B) (r : Refusal) → checked (checks m c) z ≡ Err r → after rules m c ≡ m
   unfolding after
-  after-refused z r e = unless-err (checks m c) z r (accepted rules m c) m e
+  after_refused z r e = unless_err (checks m c) z r (accepted rules m c) m e

@@ -7,7 +7,7 @@ use Rattle.rules.specs.declared.intents.Intent.{Intent}
 use Rattle.rules.specs.Intents.{standing}
 use Rattle.law.specs.Lists.{total, Each, Pairwise}
 use Rattle.law.specs.Models.{place, queue}
-use Rattle.law.proofs.Lists.{each-join, pairwise-weaker}
+use Rattle.law.proofs.Lists.{each_join, pairwise_weaker}
 use Rattle.law.proofs.Numbers.{Apart}
 
 -- p stands ahead of q, under another number
@@ -28,9 +28,9 @@ module _ (ahead : Standing → Standing → Bool) where
       cond_both (ahead (standing p) (standing q)) (p ∷ (q ∷ qs)) (q ∷ place ahead p qs) (Each P) (λ _. (h, hs)) (λ _. (hs.0, rest))
 
   -- the queue holds nobody else
-  pub each-queue : (P : Intent → Type 0) (ps : List Intent) → Each P ps → Each P (queue ahead ps)
-  each-queue P [] h = tt
-  each-queue P (p ∷ ps) h = each_place P p (queue ahead ps) h.0 (each-queue P ps h.1)
+  pub each_queue : (P : Intent → Type 0) (ps : List Intent) → Each P ps → Each P (queue ahead ps)
+  each_queue P [] h = tt
+  each_queue P (p ∷ ps) h = each_place P p (queue ahead ps) h.0 (each_queue P ps h.1)
 
   -- and the other way round
   pub place_each : (P : Intent → Type 0) (p : Intent) (qs : List Intent) → Each P (place ahead p qs) → P p × Each P qs
@@ -40,9 +40,9 @@ module _ (ahead : Standing → Standing → Bool) where
       (λ _ k. let rest = place_each P p qs k.1 in (rest.0, (k.0, rest.1))) h
 
   -- the queue leaves nobody out
-  pub queue-each : (P : Intent → Type 0) (ps : List Intent) → Each P (queue ahead ps) → Each P ps
-  queue-each P [] h = tt
-  queue-each P (p ∷ ps) h = let parts = place_each P p (queue ahead ps) h in (parts.0, queue-each P ps parts.1)
+  pub queue_each : (P : Intent → Type 0) (ps : List Intent) → Each P (queue ahead ps) → Each P ps
+  queue_each P [] h = tt
+  queue_each P (p ∷ ps) h = let parts = place_each P p (queue ahead ps) h in (parts.0, queue_each P ps parts.1)
 
   pub total_place : (f : Intent → ℕ) (p : Intent) (qs : List Intent) → total f (place ahead p qs) ≡ f p + total f qs
   total_place f p [] = refl
@@ -51,9 +51,9 @@ module _ (ahead : Standing → Standing → Bool) where
       cond_both (ahead (standing p) (standing q)) (p ∷ (q ∷ qs)) (q ∷ place ahead p qs) (λ (l : List Intent). total f l ≡ f p + (f q + total f qs)) (λ _. refl) (λ _. omega arith)
 
   -- nor has it anybody twice: every sum stays the same
-  pub total-queue : (f : Intent → ℕ) (ps : List Intent) → total f (queue ahead ps) ≡ total f ps
-  total-queue f [] = refl
-  total-queue f (p ∷ ps) = total_place f p (queue ahead ps) ∙ ap (λ (n : ℕ). f p + n) (total-queue f ps)
+  pub total_queue : (f : Intent → ℕ) (ps : List Intent) → total f (queue ahead ps) ≡ total f ps
+  total_queue f [] = refl
+  total_queue f (p ∷ ps) = total_place f p (queue ahead ps) ∙ ap (λ (n : ℕ). f p + n) (total_queue f ps)
 
 module _ (ahead : Standing → Standing → Bool) (order : Orderly ahead) where
   pub before_onward : (p q r : Intent) → Before ahead p q → Apart p r → Before ahead q r → Before ahead p r
@@ -64,8 +64,8 @@ module _ (ahead : Standing → Standing → Bool) (order : Orderly ahead) where
   before_other p q h e = ((λ k. h (sym k)), order.either (standing q) (standing p) (λ k. h (sym k)) ∙ ap not e)
 
   -- who is behind is not ahead
-  pub behind-not : (p q : Intent) → Before ahead p q → ahead (standing q) (standing p) ≡ false
-  behind-not p q h = order.either (standing q) (standing p) (λ k. h.0 (sym k)) ∙ ap not h.1
+  pub behind_not : (p q : Intent) → Before ahead p q → ahead (standing q) (standing p) ≡ false
+  behind_not p q h = order.either (standing q) (standing p) (λ k. h.0 (sym k)) ∙ ap not h.1
 
   pub ordered_place : (p : Intent) (qs : List Intent) → Each (Apart p) qs → Pairwise (Before ahead) qs → Pairwise (Before ahead) (place ahead p qs)
   ordered_place p [] h k = (tt, tt)
@@ -74,13 +74,13 @@ module _ (ahead : Standing → Standing → Bool) (order : Orderly ahead) where
       cond_both (ahead (standing p) (standing q)) (p ∷ (q ∷ qs)) (q ∷ place ahead p qs) (Pairwise (Before ahead))
       (λ e.
       let first : Before ahead p q = (h.0, e) in
-      ((first, each-join (Apart p) (Before ahead q) (Before ahead p) (λ r. before_onward p q r first) qs h.1 k.0), k))
+      ((first, each_join (Apart p) (Before ahead q) (Before ahead p) (λ r. before_onward p q r first) qs h.1 k.0), k))
       (λ e. (each_place ahead (Before ahead q) p qs (before_other p q h.0 e) k.0, rest))
 
   -- foremost first
-  pub ordered-queue : (ps : List Intent) → Pairwise Apart ps → Pairwise (Before ahead) (queue ahead ps)
-  ordered-queue [] h = tt
-  ordered-queue (p ∷ ps) h = ordered_place p (queue ahead ps) (each-queue ahead (Apart p) ps h.0) (ordered-queue ps h.1)
+  pub ordered_queue : (ps : List Intent) → Pairwise Apart ps → Pairwise (Before ahead) (queue ahead ps)
+  ordered_queue [] h = tt
+  ordered_queue (p ∷ ps) h = ordered_place p (queue ahead ps) (each_queue ahead (Apart p) ps h.0) (ordered_queue ps h.1)
 
-  pub apart-queue : (ps : List Intent) → Pairwise Apart ps → Pairwise Apart (queue ahead ps)
-  apart-queue ps h = pairwise-weaker (Before ahead) Apart (λ p q b. b.0) (queue ahead ps) (ordered-queue ps h)
+  pub apart_queue : (ps : List Intent) → Pairwise Apart ps → Pairwise Apart (queue ahead ps)
+  apart_queue ps h = pairwise_weaker (Before ahead) Apart (λ p q b. b.0) (queue ahead ps) (ordered_queue ps h)

@@ -9,9 +9,9 @@ use Rattle.rules.specs.Intents.{standing}
 use Rattle.law.specs.Lists.{keep, total, Each, Pairwise}
 use Rattle.law.specs.Turns.{handed, leading_group, given}
 use Rattle.law.specs.Models.{serve}
-use Rattle.law.proofs.Lists.{each_all, each-weaker, each-join, each_keep, keep-none, total-same}
+use Rattle.law.proofs.Lists.{each_all, each_weaker, each_join, each_keep, keep_none, total_same}
 use Rattle.law.proofs.Numbers.{Apart}
-use Rattle.law.proofs.Queue.{Before, Orderly, behind-not}
+use Rattle.law.proofs.Queue.{Before, Orderly, behind_not}
 
 module _ (active price mark : ℕ) where
   -- the slip of one passive intent
@@ -19,30 +19,30 @@ module _ (active price mark : ℕ) where
   slip p v = record { active = active; passive = p.number; volume = v; price = price; mark = mark }
 
   -- where nothing is left, nobody is served
-  pub serve-spent : (left : ℕ) → left ≡ 0 → (qs : List Intent) → serve active price mark left qs ≡ []
-  serve-spent left h [] = refl
-  serve-spent left h (p ∷ ps) = cond-false (ltb 0 left) _ [] (le-ltb 0 left (omega arith))
+  pub serve_spent : (left : ℕ) → left ≡ 0 → (qs : List Intent) → serve active price mark left qs ≡ []
+  serve_spent left h [] = refl
+  serve_spent left h (p ∷ ps) = cond-false (ltb 0 left) _ [] (le-ltb 0 left (omega arith))
 
   -- a fact of the intents in the queue is one of their slips
-  pub each-serve : (P : Intent → Type 0) (Q : Fill → Type 0) → ((p : Intent) (left : ℕ) → 0 < left → P p → Q (slip p (min p.remaining left))) →
+  pub each_serve : (P : Intent → Type 0) (Q : Fill → Type 0) → ((p : Intent) (left : ℕ) → 0 < left → P p → Q (slip p (min p.remaining left))) →
       (left : ℕ) (qs : List Intent) → Each P qs → Each Q (serve active price mark left qs)
-  each-serve P Q f left [] h = tt
-  each-serve P Q f left (p ∷ ps) h =
-      let rest = each-serve P Q f (left - min p.remaining left) ps h.1 in
+  each_serve P Q f left [] h = tt
+  each_serve P Q f left (p ∷ ps) h =
+      let rest = each_serve P Q f (left - min p.remaining left) ps h.1 in
       cond_both (ltb 0 left) (slip p (min p.remaining left) ∷ serve active price mark (left - min p.remaining left) ps) [] (Each Q) (λ e. (f p left (ltb-true 0 left e) h.0, rest)) (λ _. tt)
 
   -- every slip carries the active number
-  pub serve-active : (left : ℕ) (qs : List Intent) → Each (λ (f : Fill). f.active ≡ active) (serve active price mark left qs)
-  serve-active left qs = each-serve (λ p. Unit {0}) (λ f. f.active ≡ active) (λ p v _ _. refl) left qs (each_all (λ p. Unit {0}) (λ p. tt) qs)
+  pub serve_active : (left : ℕ) (qs : List Intent) → Each (λ (f : Fill). f.active ≡ active) (serve active price mark left qs)
+  serve_active left qs = each_serve (λ p. Unit {0}) (λ f. f.active ≡ active) (λ p v _ _. refl) left qs (each_all (λ p. Unit {0}) (λ p. tt) qs)
 
   -- and a fact of two of them is one of their slips
-  pub pairwise-serve : (R : Intent → Intent → Type 0) (S : Fill → Fill → Type 0) → ((p q : Intent) (v w : ℕ) → R p q → S (slip p v) (slip q w)) →
+  pub pairwise_serve : (R : Intent → Intent → Type 0) (S : Fill → Fill → Type 0) → ((p q : Intent) (v w : ℕ) → R p q → S (slip p v) (slip q w)) →
       (left : ℕ) (qs : List Intent) → Pairwise R qs → Pairwise S (serve active price mark left qs)
-  pairwise-serve R S f left [] h = tt
-  pairwise-serve R S f left (p ∷ ps) h =
+  pairwise_serve R S f left [] h = tt
+  pairwise_serve R S f left (p ∷ ps) h =
       let v : ℕ = min p.remaining left in
-      let behind = each-serve (R p) (S (slip p v)) (λ q l _ r. f p q v (min q.remaining l) r) (left - v) ps h.0 in
-      let rest = pairwise-serve R S f (left - v) ps h.1 in
+      let behind = each_serve (R p) (S (slip p v)) (λ q l _ r. f p q v (min q.remaining l) r) (left - v) ps h.0 in
+      let rest = pairwise_serve R S f (left - v) ps h.1 in
       cond_both (ltb 0 left) (slip p v ∷ serve active price mark (left - v) ps) [] (Pairwise S) (λ _. (behind, rest)) (λ _. tt)
 
   -- WHAT IS GIVEN TO EACH
@@ -57,7 +57,7 @@ module _ (active price mark : ℕ) where
         cond_both (ltb 0 left) (slip p v ∷ others) [] (λ (fs : List Fill). given fs n ≡ cond (eqb p.number n) v 0 + given others n) (λ _. refl)
         (λ e.
         let spent : left ≤ 0 = ltb-false 0 left e in
-        let none : given others n ≡ 0 = ap (λ (fs : List Fill). given fs n) (serve-spent (left - v) (omega arith) ps) in
+        let none : given others n ≡ 0 = ap (λ (fs : List Fill). given fs n) (serve_spent (left - v) (omega arith) ps) in
         cond_both (eqb p.number n) v 0 (λ (x : ℕ). 0 ≡ x + given others n) (λ _. omega arith) (λ _. omega arith))
 
     pub given_later : (n : ℕ) → (p.number ≡ n → ⊥) → given (serve active price mark left (p ∷ ps)) n ≡ given (serve active price mark (left - min p.remaining left) ps) n
@@ -76,31 +76,31 @@ module _ (active price mark : ℕ) where
     given_first =
         let more = given_more left p ps p.number in
         let mine : cond (eqb p.number p.number) (min p.remaining left) 0 ≡ min p.remaining left = cond-true (eqb p.number p.number) _ 0 (eq-eqb p.number p.number refl) in
-        let others = given_none p.number (left - min p.remaining left) ps (each-weaker (Apart p) (λ (q : Intent). q.number ≡ p.number → ⊥) (λ q h k. h (sym k)) ps apart) in
+        let others = given_none p.number (left - min p.remaining left) ps (each_weaker (Apart p) (λ (q : Intent). q.number ≡ p.number → ⊥) (λ q h k. h (sym k)) ps apart) in
         omega arith
 
     pub given_others : Each (λ (q : Intent). given (serve active price mark left (p ∷ ps)) q.number ≡ given (serve active price mark (left - min p.remaining left) ps) q.number) ps
-    given_others = each-weaker (Apart p) _ (λ q h. given_later left p ps q.number h) ps apart
+    given_others = each_weaker (Apart p) _ (λ q h. given_later left p ps q.number h) ps apart
 
     -- the same for any part of the others
     pub handed_others : (t : Intent → Bool) → handed (given (serve active price mark left (p ∷ ps))) (keep t ps) ≡ handed (given (serve active price mark (left - min p.remaining left) ps)) (keep t ps)
-    handed_others t = total-same _ _ (keep t ps) (each_keep _ t ps given_others)
+    handed_others t = total_same _ _ (keep t ps) (each_keep _ t ps given_others)
 
   -- THE ALLOTMENT
 
   -- nobody gets more than it has left
-  pub served-each : (left : ℕ) (qs : List Intent) → Pairwise Apart qs → Each (λ (q : Intent). given (serve active price mark left qs) q.number ≤ q.remaining) qs
-  served-each left [] h = tt
-  served-each left (p ∷ ps) h =
+  pub served_each : (left : ℕ) (qs : List Intent) → Pairwise Apart qs → Each (λ (q : Intent). given (serve active price mark left qs) q.number ≤ q.remaining) qs
+  served_each left [] h = tt
+  served_each left (p ∷ ps) h =
       let first = given_first left p ps h.0 in
-      (omega arith, each-join _ _ _ (λ q e k. omega arith) ps (given_others left p ps h.0) (served-each (left - min p.remaining left) ps h.1))
+      (omega arith, each_join _ _ _ (λ q e k. omega arith) ps (given_others left p ps h.0) (served_each (left - min p.remaining left) ps h.1))
 
   -- no more is handed out than there is
-  pub served-all : (left : ℕ) (qs : List Intent) → Pairwise Apart qs → handed (given (serve active price mark left qs)) qs ≤ left
-  served-all left [] h = omega arith
-  served-all left (p ∷ ps) h =
-      let same = total-same _ _ ps (given_others left p ps h.0) in
-      let rest = served-all (left - min p.remaining left) ps h.1 in
+  pub served_all : (left : ℕ) (qs : List Intent) → Pairwise Apart qs → handed (given (serve active price mark left qs)) qs ≤ left
+  served_all left [] h = omega arith
+  served_all left (p ∷ ps) h =
+      let same = total_same _ _ ps (given_others left p ps h.0) in
+      let rest = served_all (left - min p.remaining left) ps h.1 in
       let first = given_first left p ps h.0 in
       omega arith
 
@@ -112,25 +112,25 @@ leads ahead g p = eqb p.number g.number || ahead (standing p) (standing g)
 
 module _ (ahead : Standing → Standing → Bool) (order : Orderly ahead) where
   -- the foremost leads alone
-  pub group-first : (p : Intent) (ps : List Intent) → Each (Before ahead p) ps → leading_group ahead p (p ∷ ps) ≡ p ∷ []
-  group-first p ps h =
+  pub group_first : (p : Intent) (ps : List Intent) → Each (Before ahead p) ps → leading_group ahead p (p ∷ ps) ≡ p ∷ []
+  group_first p ps h =
       cond-true (leads ahead p p) (p ∷ leading_group ahead p ps) (leading_group ahead p ps) (or_left _ _ (eq-eqb p.number p.number refl)) ∙
-      ap (λ (l : List Intent). p ∷ l) (keep-none (leads ahead p) ps (each-weaker _ _ (λ q b. or_from _ _ (ne_eqb _ _ (λ e. b.0 (sym e))) (behind-not ahead order p q b)) ps h))
+      ap (λ (l : List Intent). p ∷ l) (keep_none (leads ahead p) ps (each_weaker _ _ (λ q b. or_from _ _ (ne_eqb _ _ (λ e. b.0 (sym e))) (behind_not ahead order p q b)) ps h))
 
   -- whoever else leads a group has the foremost in it
-  pub group-later : (p g : Intent) (ps : List Intent) → Before ahead p g → leading_group ahead g (p ∷ ps) ≡ p ∷ leading_group ahead g ps
-  group-later p g ps h = cond-true (leads ahead g p) _ _ (or_right _ _ h.1)
+  pub group_later : (p g : Intent) (ps : List Intent) → Before ahead p g → leading_group ahead g (p ∷ ps) ≡ p ∷ leading_group ahead g ps
+  group_later p g ps h = cond-true (leads ahead g p) _ _ (or_right _ _ h.1)
 
   -- a leading group gets all that there is, up to all that it has left
-  pub groups-served : (active price mark left : ℕ) (qs : List Intent) → Pairwise (Before ahead) qs →
+  pub groups_served : (active price mark left : ℕ) (qs : List Intent) → Pairwise (Before ahead) qs →
       Each (λ (g : Intent). handed (given (serve active price mark left qs)) (leading_group ahead g qs) ≡ min left (total (λ (p : Intent). p.remaining) (leading_group ahead g qs))) qs
-  groups-served active price mark left [] h = tt
-  groups-served active price mark left (p ∷ ps) h =
-      let apart : Each (Apart p) ps = each-weaker (Before ahead p) (Apart p) (λ q b. b.0) ps h.0 in
+  groups_served active price mark left [] h = tt
+  groups_served active price mark left (p ∷ ps) h =
+      let apart : Each (Apart p) ps = each_weaker (Before ahead p) (Apart p) (λ q b. b.0) ps h.0 in
       let first = given_first active price mark left p ps apart in
-      let rest = groups-served active price mark (left - min p.remaining left) ps h.1 in (
-        rw (group-first p ps h.0) (omega arith),
-        each-join (Before ahead p) _ _ (λ g b k.
+      let rest = groups_served active price mark (left - min p.remaining left) ps h.1 in (
+        rw (group_first p ps h.0) (omega arith),
+        each_join (Before ahead p) _ _ (λ g b k.
             let same = handed_others active price mark left p ps apart (leads ahead g) in
-            rw (group-later p g ps b) (omega arith)) ps h.0 rest,
+            rw (group_later p g ps b) (omega arith)) ps h.0 rest,
       )

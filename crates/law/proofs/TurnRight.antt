@@ -12,15 +12,15 @@ use Rattle.law.specs.Lists.{keep, total, Each, Pairwise}
 use Rattle.law.specs.Accounts.{Account, quote_in_force, eligible_for, find}
 use Rattle.law.specs.Turns.{Rules, LawfulRules, handed, Allotment, leading_group, given, active_number, Priced, DueSlip, Precedes, Turn, LawfulIfAny, Sound}
 use Rattle.law.specs.Models.{queue, serve, fills_under, turn_fills}
-use Rattle.law.proofs.Lists.{T_true, each-weaker, each-join, each_keep, each-passes, pairwise-beside, total-least, total-keep, total-part}
-use Rattle.law.proofs.Numbers.{Apart, find-each}
-use Rattle.law.proofs.Queue.{Before, Orderly, each-queue, queue-each, total-queue, ordered-queue, apart-queue}
-use Rattle.law.proofs.Serve.{slip, each-serve, pairwise-serve, served-each, served-all, leads, groups-served}
-use Rattle.law.proofs.Eligibility.{in-force-lawful, eligible-within, eligible-none, eligible-some, each-eligible, eligible-apart, eligible-resting}
+use Rattle.law.proofs.Lists.{T_true, each_weaker, each_join, each_keep, each_passes, pairwise_beside, total_least, total_keep, total_part}
+use Rattle.law.proofs.Numbers.{Apart, find_each}
+use Rattle.law.proofs.Queue.{Before, Orderly, each_queue, queue_each, total_queue, ordered_queue, apart_queue}
+use Rattle.law.proofs.Serve.{slip, each_serve, pairwise_serve, served_each, served_all, leads, groups_served}
+use Rattle.law.proofs.Eligibility.{in_force_lawful, eligible_within, eligible_none, eligible_some, each_eligible, eligible_apart, eligible_resting}
 
 -- the queue hands the same to any part
-pub part-queue : (ahead : Standing → Standing → Bool) (f : Intent → ℕ) (t : Intent → Bool) (ps : List Intent) → total f (keep t (queue ahead ps)) ≡ total f (keep t ps)
-part-queue ahead f t ps = total-keep f t (queue ahead ps) ∙ total-queue ahead _ ps ∙ sym (total-keep f t ps)
+pub part_queue : (ahead : Standing → Standing → Bool) (f : Intent → ℕ) (t : Intent → Bool) (ps : List Intent) → total f (keep t (queue ahead ps)) ≡ total f (keep t ps)
+part_queue ahead f t ps = total_keep f t (queue ahead ps) ∙ total_queue ahead _ ps ∙ sym (total_keep f t ps)
 
 abbrev pub remaining_of : List Intent → ℕ
 remaining_of ps = total (λ (p : Intent). p.remaining) ps
@@ -28,8 +28,8 @@ remaining_of ps = total (λ (p : Intent). p.remaining) ps
 -- no way to hand out shares gives a part more than there is, or more than it has left
 pub part_capped : (volume : ℕ) (ps : List Intent) (give : ℕ → ℕ) (t : Intent → Bool) → Allotment volume ps give → handed give (keep t ps) ≤ min volume (remaining_of (keep t ps))
 part_capped volume ps give t h =
-    let part = total-part (λ (p : Intent). give p.number) t ps in
-    let each = total-least (λ (p : Intent). give p.number) (λ (p : Intent). p.remaining) (keep t ps) (each_keep _ t ps h.each) in
+    let part = total_part (λ (p : Intent). give p.number) t ps in
+    let each = total_least (λ (p : Intent). give p.number) (λ (p : Intent). p.remaining) (keep t ps) (each_keep _ t ps h.each) in
     omega (arith, h.all)
 
 module _ (ahead : Standing → Standing → Bool) (order : Orderly ahead)
@@ -40,21 +40,21 @@ module _ (ahead : Standing → Standing → Bool) (order : Orderly ahead)
   -- serving the queue is an allotment
   pub served_allotment : Allotment volume ps (given served)
   served_allotment = record {
-    each = queue-each ahead _ ps (served-each active price mark volume (queue ahead ps) (apart-queue ahead order ps apart));
-    all = rw (total-queue ahead (λ (p : Intent). given served p.number) ps) at (served-all active price mark volume (queue ahead ps) (apart-queue ahead order ps apart));
+    each = queue_each ahead _ ps (served_each active price mark volume (queue ahead ps) (apart_queue ahead order ps apart));
+    all = rw (total_queue ahead (λ (p : Intent). given served p.number) ps) at (served_all active price mark volume (queue ahead ps) (apart_queue ahead order ps apart));
   }
 
   -- each leading group gets all that there is, up to all that it has left
   pub served_groups : Each (λ (g : Intent). handed (given served) (leading_group ahead g ps) ≡ min volume (remaining_of (leading_group ahead g ps))) ps
   served_groups =
-      queue-each ahead _ ps (each-weaker _ _ (λ g k.
-      let handed_same = part-queue ahead (λ (p : Intent). given served p.number) (leads ahead g) ps in
-      let left_same = part-queue ahead (λ (p : Intent). p.remaining) (leads ahead g) ps in
-      omega arith) (queue ahead ps) (groups-served ahead order active price mark volume (queue ahead ps) (ordered-queue ahead order ps apart)))
+      queue_each ahead _ ps (each_weaker _ _ (λ g k.
+      let handed_same = part_queue ahead (λ (p : Intent). given served p.number) (leads ahead g) ps in
+      let left_same = part_queue ahead (λ (p : Intent). p.remaining) (leads ahead g) ps in
+      omega arith) (queue ahead ps) (groups_served ahead order active price mark volume (queue ahead ps) (ordered_queue ahead order ps apart)))
 
   -- so no allotment gives it more
   pub served_most : (give : ℕ → ℕ) → Allotment volume ps give → Each (λ (g : Intent). handed give (leading_group ahead g ps) ≤ handed (given served) (leading_group ahead g ps)) ps
-  served_most give h = each-weaker _ _ (λ g k. let cap = part_capped volume ps give (leads ahead g) h in omega arith) ps served_groups
+  served_most give h = each_weaker _ _ (λ g k. let cap = part_capped volume ps give (leads ahead g) h in omega arith) ps served_groups
 
 -- a lawful priority lines up those that it is asked of
 pub orderly : (rules : Rules) (s : ℕ) → LawfulRules rules → Orderly (rules.ahead s)
@@ -64,7 +64,7 @@ module _ (rules : Rules) (a : Account) (i : Incoming) (lawful : LawfulRules rule
   -- no quote in force, no fills
   turn_none : quote_in_force a i.security ≡ None → Turn rules a i []
   turn_none e =
-      let none = eligible-none rules.price a i e in
+      let none = eligible_none rules.price a i e in
       record {
         slips = tt;
         foremost_first = tt;
@@ -90,7 +90,7 @@ module _ (rules : Rules) (a : Account) (i : Incoming) (lawful : LawfulRules rule
 
     -- who stands among the eligible passes the test
     passives_eligible : Each (λ (p : Intent). T (eligible q price i p)) passives
-    passives_eligible = rw (eligible-some rules.price a i q e) (each-weaker _ _ (λ p t. T_true t) (keep (eligible q price i) a.resting) (each-passes (eligible q price i) a.resting))
+    passives_eligible = rw (eligible_some rules.price a i q e) (each_weaker _ _ (λ p t. T_true t) (keep (eligible q price i) a.resting) (each_passes (eligible q price i) a.resting))
 
     -- p has a place in the line
     abbrev Lined : Intent → Type 0
@@ -98,18 +98,18 @@ module _ (rules : Rules) (a : Account) (i : Incoming) (lawful : LawfulRules rule
 
     lined : Each Lined line
     lined =
-        each-queue ahead Lined passives
-        (each-join _ _ Lined (λ p l w. (l, w.0, w.1)) passives (each-eligible rules.price a i _ sound.something_left)
-        (each-join _ _ (λ (p : Intent). T (eligible q price i p) × (find p.number passives ≡ Some p)) (λ p t f. (t, f)) passives passives_eligible (find-each passives (eligible-apart rules.price a i sound))))
+        each_queue ahead Lined passives
+        (each_join _ _ Lined (λ p l w. (l, w.0, w.1)) passives (each_eligible rules.price a i _ sound.something_left)
+        (each_join _ _ (λ (p : Intent). T (eligible q price i p) × (find p.number passives ≡ Some p)) (λ p t f. (t, f)) passives passives_eligible (find_each passives (eligible_apart rules.price a i sound))))
 
     found : Each (λ (p : Intent). find p.number a.resting ≡ Some p) line
-    found = each-queue ahead _ passives (eligible-resting rules.price a i sound)
+    found = each_queue ahead _ passives (eligible_resting rules.price a i sound)
 
     -- the slip of anybody in the line is at the price, within the quote and both limits
     priced : (p : Intent) (v : ℕ) → Lined p → Priced rules a i passives (slip (active_number i.number) price rules.mark p v)
     priced p v h =
-        let quoted : LawfulIfAny (Some q) = rw e at (in-force-lawful a sound i.security) in
-        let within = eligible-within q price i p h.1 in
+        let quoted : LawfulIfAny (Some q) = rw e at (in_force_lawful a sound i.security) in
+        let within = eligible_within q price i p h.1 in
         record {
           quote = q;
           in_force = e;
@@ -122,7 +122,7 @@ module _ (rules : Rules) (a : Account) (i : Incoming) (lawful : LawfulRules rule
         }
 
     ahead_line : Pairwise (Before ahead) line
-    ahead_line = ordered-queue ahead (orderly rules i.subscriber lawful) passives (eligible-apart rules.price a i sound)
+    ahead_line = ordered_queue ahead (orderly rules i.subscriber lawful) passives (eligible_apart rules.price a i sound)
 
     -- the resting intents under the two numbers stand as the two in the line do
     ahead_found : (p r p' r' : Intent) → (find p.number a.resting ≡ Some p) × (find r.number a.resting ≡ Some r) × Before ahead p r →
@@ -134,15 +134,15 @@ module _ (rules : Rules) (a : Account) (i : Incoming) (lawful : LawfulRules rule
 
     turn_some : Turn rules a i fills
     turn_some = record {
-      slips = each-serve (active_number i.number) price rules.mark Lined (DueSlip rules a i) (λ p left some h. record { active = refl; some = omega arith; mark = refl; priced = priced p _ h }) i.volume line lined;
-      foremost_first = pairwise-serve (active_number i.number) price rules.mark _ (Precedes ahead a.resting) (λ p r v w h. record { other = h.2.0; first = λ p' r'. ahead_found p r p' r' h }) i.volume line (pairwise-beside _ _ line found ahead_line);
-      allotment = served_allotment ahead (orderly rules i.subscriber lawful) (active_number i.number) price rules.mark i.volume passives (eligible-apart rules.price a i sound);
-      most = served_most ahead (orderly rules i.subscriber lawful) (active_number i.number) price rules.mark i.volume passives (eligible-apart rules.price a i sound);
+      slips = each_serve (active_number i.number) price rules.mark Lined (DueSlip rules a i) (λ p left some h. record { active = refl; some = omega arith; mark = refl; priced = priced p _ h }) i.volume line lined;
+      foremost_first = pairwise_serve (active_number i.number) price rules.mark _ (Precedes ahead a.resting) (λ p r v w h. record { other = h.2.0; first = λ p' r'. ahead_found p r p' r' h }) i.volume line (pairwise_beside _ _ line found ahead_line);
+      allotment = served_allotment ahead (orderly rules i.subscriber lawful) (active_number i.number) price rules.mark i.volume passives (eligible_apart rules.price a i sound);
+      most = served_most ahead (orderly rules i.subscriber lawful) (active_number i.number) price rules.mark i.volume passives (eligible_apart rules.price a i sound);
     }
 
   turn_under : (o : Option Quote) → quote_in_force a i.security ≡ o → Turn rules a i (fills_under rules o a i)
   turn_under None e = turn_none e
   turn_under (Some q) e = turn_some q e
 
-pub turn-right : (rules : Rules) (a : Account) (i : Incoming) → LawfulRules rules → Sound a → Turn rules a i (turn_fills rules a i)
-turn-right rules a i lawful sound = turn_under rules a i lawful sound (quote_in_force a i.security) refl
+pub turn_right : (rules : Rules) (a : Account) (i : Incoming) → LawfulRules rules → Sound a → Turn rules a i (turn_fills rules a i)
+turn_right rules a i lawful sound = turn_under rules a i lawful sound (quote_in_force a i.security) refl

@@ -11,13 +11,13 @@ use Rattle.law.specs.Lists.{Each, Pairwise}
 use Rattle.law.specs.Accounts.{Account, quote_in_force, eligible_for, find}
 use Rattle.law.specs.Turns.{Rules, LawfulRules, handed, leading_group, given, active_number, DueSlip, Precedes, Turn, OnlyTurn, Sound}
 use Rattle.law.specs.Models.{queue, turn_fills}
-use Rattle.law.proofs.Lists.{T_false, each-weaker, each-join}
-use Rattle.law.proofs.Numbers.{Apart, each-find, find-later, find-each, find-in}
+use Rattle.law.proofs.Lists.{T_false, each_weaker, each_join}
+use Rattle.law.proofs.Numbers.{Apart, each_find, find_later, find_each, find_in}
 use Rattle.law.proofs.Fills.{given_nothing}
-use Rattle.law.proofs.Queue.{Before, Orderly, each-queue, queue-each, behind-not, ordered-queue, apart-queue}
-use Rattle.law.proofs.Serve.{slip, leads, group-first, group-later}
-use Rattle.law.proofs.Eligibility.{eligible-apart, eligible-resting}
-use Rattle.law.proofs.TurnRight.{part-queue, orderly, turn-right}
+use Rattle.law.proofs.Queue.{Before, Orderly, each_queue, queue_each, behind_not, ordered_queue, apart_queue}
+use Rattle.law.proofs.Serve.{slip, leads, group_first, group_later}
+use Rattle.law.proofs.Eligibility.{eligible_apart, eligible_resting}
+use Rattle.law.proofs.TurnRight.{part_queue, orderly, turn_right}
 
 -- a slip for each that gets shares, in the order of the line
 abbrev pub slips_along : ℕ → ℕ → ℕ → (ℕ → ℕ) → List Intent → List Fill
@@ -52,7 +52,7 @@ module _ (active price mark : ℕ) where
   -- slips that are not for the first are for the rest of the line
   due_later : (p : Intent) (ps : List Intent) (fs : List Fill) → Each (λ (f : Fill). f.passive ≡ p.number → ⊥) fs → Each (Due (p ∷ ps)) fs → Each (Due ps) fs
   due_later p ps fs h k =
-      each-join _ _ _ (λ f n d. record { some = d.some; active_is = d.active_is; price_is = d.price_is; mark_is = d.mark_is; passive = d.passive; found = sym (find-later f.passive p ps (λ e. n (sym e))) ∙ d.found }) fs h k
+      each_join _ _ _ (λ f n d. record { some = d.some; active_is = d.active_is; price_is = d.price_is; mark_is = d.mark_is; passive = d.passive; found = sym (find_later f.passive p ps (λ e. n (sym e))) ∙ d.found }) fs h k
 
   -- slips that stand in the order of the line are those along it
   module _ (ahead : Standing → Standing → Bool) (line : Orderly ahead) (resting : List Intent) where
@@ -61,10 +61,10 @@ module _ (active price mark : ℕ) where
         Each (λ (q : Intent). find q.number resting ≡ Some q) ps → Each (Before ahead p) ps → Each (Precedes ahead resting f) fs → Each (λ (g : Fill). g.passive ≡ p.number → ⊥) fs
     none_for_first p ps f fs other due mine found before order =
         let r : Intent = due.passive in
-        let behind : find f.passive ps ≡ Some r = sym (find-later f.passive p ps (λ e. other (sym e))) ∙ due.found in
-        let r_found : find f.passive resting ≡ Some r = find-in ps resting found f.passive r behind in
-        let p_r : Before ahead p r = each-find (Before ahead p) f.passive ps r before behind in
-        each-weaker _ _ (λ g o e. T_false (behind-not ahead line p r p_r) (o.first r p r_found (ap (λ (n : ℕ). find n resting) e ∙ mine))) fs order
+        let behind : find f.passive ps ≡ Some r = sym (find_later f.passive p ps (λ e. other (sym e))) ∙ due.found in
+        let r_found : find f.passive resting ≡ Some r = find_in ps resting found f.passive r behind in
+        let p_r : Before ahead p r = each_find (Before ahead p) f.passive ps r before behind in
+        each_weaker _ _ (λ g o e. T_false (behind_not ahead line p r p_r) (o.first r p r_found (ap (λ (n : ℕ). find n resting) e ∙ mine))) fs order
 
     -- who gets no slip adds none
     not_first : (p : Intent) (ps : List Intent) (fs : List Fill) → Each (λ (f : Fill). f.passive ≡ p.number → ⊥) fs → slips_along active price mark (given fs) (p ∷ ps) ≡ slips_along active price mark (given fs) ps
@@ -76,7 +76,7 @@ module _ (active price mark : ℕ) where
     for_first p ps f fs e due apart others =
         let mine : cond (eqb f.passive p.number) f.volume 0 ≡ f.volume = cond-true (eqb f.passive p.number) _ 0 (eq-eqb _ _ e) in
         let whole : given (f ∷ fs) p.number ≡ f.volume = omega (arith, given_nothing p.number fs others) in
-        let rest = along_same (given (f ∷ fs)) (given fs) ps (each-weaker (Apart p) _ (λ q k. omega (arith, cond-false (eqb f.passive q.number) f.volume 0 (ne_eqb _ _ (λ l. k (sym e ∙ l))))) ps apart) in
+        let rest = along_same (given (f ∷ fs)) (given fs) ps (each_weaker (Apart p) _ (λ q k. omega (arith, cond-false (eqb f.passive q.number) f.volume 0 (ne_eqb _ _ (λ l. k (sym e ∙ l))))) ps apart) in
         cond-true (ltb 0 (given (f ∷ fs) p.number)) _ _ (lt-ltb 0 _ (omega (arith, due.some))) ∙ ap₂ ◌∷◌ (ap (slip active price mark p) whole ∙ slip_is p f (p ∷ ps) due e) rest
 
     -- slips in the order of the line are told by what they give
@@ -87,8 +87,8 @@ module _ (active price mark : ℕ) where
     read_back (p ∷ ps) (f ∷ fs) found before due order =
         ⊎_elim
         (λ e.
-        let others = each-weaker (Precedes ahead resting f) (λ (g : Fill). g.passive ≡ p.number → ⊥) (λ g o k. o.other (e ∙ sym k)) fs order.0 in
-        for_first p ps f fs e due.0 (each-weaker (Before ahead p) (Apart p) (λ q b. b.0) ps before.0) others ∙
+        let others = each_weaker (Precedes ahead resting f) (λ (g : Fill). g.passive ≡ p.number → ⊥) (λ g o k. o.other (e ∙ sym k)) fs order.0 in
+        for_first p ps f fs e due.0 (each_weaker (Before ahead p) (Apart p) (λ q b. b.0) ps before.0) others ∙
         ap (λ (l : List Fill). f ∷ l) (read_back ps fs found.1 before.1 (due_later p ps fs others due.1) order.1))
         (λ other.
         let others : Each (λ (g : Fill). g.passive ≡ p.number → ⊥) (f ∷ fs) = (other, none_for_first p ps f fs other due.0 found.0 found.1 before.0 order.0) in
@@ -103,17 +103,17 @@ module _ (ahead : Standing → Standing → Bool) (order : Orderly ahead) (x y :
   groups_tell : (ps : List Intent) → Pairwise (Before ahead) ps → Each (Alike ps) ps → Each (λ (p : Intent). x p.number ≡ y p.number) ps
   groups_tell [] h k = tt
   groups_tell (p ∷ ps) h k =
-      let first = rw (group-first ahead order p ps h.0) at k.0 in
+      let first = rw (group_first ahead order p ps h.0) at k.0 in
       let same : x p.number ≡ y p.number = omega arith in
-      let rest : Each (Alike ps) ps = each-join (Before ahead p) (Alike (p ∷ ps)) (Alike ps) (λ g b l. let later = rw (group-later ahead order p g ps b) at l in omega arith) ps h.0 k.1 in
+      let rest : Each (Alike ps) ps = each_join (Before ahead p) (Alike (p ∷ ps)) (Alike ps) (λ g b l. let later = rw (group_later ahead order p g ps b) at l in omega arith) ps h.0 k.1 in
       (same, groups_tell ps h.1 rest)
 
   -- the same of a list that is not in order
   pub groups_decide : (ps : List Intent) → Pairwise Apart ps → Each (Alike ps) ps → Each (λ (p : Intent). x p.number ≡ y p.number) (queue ahead ps)
   groups_decide ps apart k =
-      groups_tell (queue ahead ps) (ordered-queue ahead order ps apart)
-      (each-queue ahead (Alike (queue ahead ps)) ps (each-weaker (Alike ps) (Alike (queue ahead ps)) (λ g same.
-      part-queue ahead (λ (p : Intent). x p.number) (leads ahead g) ps ∙ same ∙ sym (part-queue ahead (λ (p : Intent). y p.number) (leads ahead g) ps)) ps k))
+      groups_tell (queue ahead ps) (ordered_queue ahead order ps apart)
+      (each_queue ahead (Alike (queue ahead ps)) ps (each_weaker (Alike ps) (Alike (queue ahead ps)) (λ g same.
+      part_queue ahead (λ (p : Intent). x p.number) (leads ahead g) ps ∙ same ∙ sym (part_queue ahead (λ (p : Intent). y p.number) (leads ahead g) ps)) ps k))
 
 module _ (rules : Rules) (a : Account) (i : Incoming) (lawful : LawfulRules rules) (sound : Sound a) where
   -- no quote in force, no slips
@@ -129,10 +129,10 @@ module _ (rules : Rules) (a : Account) (i : Incoming) (lawful : LawfulRules rule
     passives = eligible_for rules.price a i
 
     ordered : Pairwise (Before ahead) (queue ahead passives)
-    ordered = ordered-queue ahead (orderly rules i.subscriber lawful) passives (eligible-apart rules.price a i sound)
+    ordered = ordered_queue ahead (orderly rules i.subscriber lawful) passives (eligible_apart rules.price a i sound)
 
     queue_found : Each (λ (p : Intent). find p.number (queue ahead passives) ≡ Some p) passives
-    queue_found = queue-each ahead _ passives (find-each (queue ahead passives) (apart-queue ahead (orderly rules i.subscriber lawful) passives (eligible-apart rules.price a i sound)))
+    queue_found = queue_each ahead _ passives (find_each (queue ahead passives) (apart_queue ahead (orderly rules i.subscriber lawful) passives (eligible_apart rules.price a i sound)))
 
     due : (f : Fill) → DueSlip rules a i f → Due (active_number i.number) (rules.price q i.side) rules.mark (queue ahead passives) f
     due f slip =
@@ -143,20 +143,20 @@ module _ (rules : Rules) (a : Account) (i : Incoming) (lawful : LawfulRules rule
           price_is = slip.priced.at_price ∙ ap (λ (x : Quote). rules.price x i.side) quote;
           mark_is = slip.mark;
           passive = slip.priced.passive;
-          found = find-in passives (queue ahead passives) queue_found f.passive slip.priced.passive slip.priced.found;
+          found = find_in passives (queue ahead passives) queue_found f.passive slip.priced.passive slip.priced.found;
         }
 
     -- the slips of a turn, from what they give
     turn_read : (fs : List Fill) → Turn rules a i fs → slips_along (active_number i.number) (rules.price q i.side) rules.mark (given fs) (queue ahead passives) ≡ fs
     turn_read fs t =
         read_back (active_number i.number) (rules.price q i.side) rules.mark ahead (orderly rules i.subscriber lawful) a.resting (queue ahead passives) fs
-        (each-queue ahead _ passives (eligible-resting rules.price a i sound)) ordered
-        (each-weaker _ _ due fs t.slips) t.foremost_first
+        (each_queue ahead _ passives (eligible_resting rules.price a i sound)) ordered
+        (each_weaker _ _ due fs t.slips) t.foremost_first
 
     turn_same : (fs gs : List Fill) → Turn rules a i fs → Turn rules a i gs → fs ≡ gs
     turn_same fs gs t u =
-        let groups = each-join _ _ _ (λ g l m. omega arith) passives (t.most (given gs) u.allotment) (u.most (given fs) t.allotment) in
-        let shares = groups_decide ahead (orderly rules i.subscriber lawful) (given fs) (given gs) passives (eligible-apart rules.price a i sound) groups in
+        let groups = each_join _ _ _ (λ g l m. omega arith) passives (t.most (given gs) u.allotment) (u.most (given fs) t.allotment) in
+        let shares = groups_decide ahead (orderly rules i.subscriber lawful) (given fs) (given gs) passives (eligible_apart rules.price a i sound) groups in
         sym (turn_read fs t) ∙ along_same (active_number i.number) (rules.price q i.side) rules.mark (given fs) (given gs) (queue ahead passives) shares ∙ turn_read gs u
 
   unique_under : (o : Option Quote) → quote_in_force a i.security ≡ o → (fs gs : List Fill) → Turn rules a i fs → Turn rules a i gs → fs ≡ gs
@@ -169,8 +169,8 @@ turn_unique rules a i lawful sound fs gs t u = unique_under rules a i lawful sou
 
 -- the fills that the law asks for are those of the model
 pub turn_only : (rules : Rules) (a : Account) (i : Incoming) → LawfulRules rules → Sound a → (fs : List Fill) → Turn rules a i fs → fs ≡ turn_fills rules a i
-turn_only rules a i lawful sound fs t = turn_unique rules a i lawful sound fs (turn_fills rules a i) t (turn-right rules a i lawful sound)
+turn_only rules a i lawful sound fs t = turn_unique rules a i lawful sound fs (turn_fills rules a i) t (turn_right rules a i lawful sound)
 
 -- the model's fills are a turn's, and the only ones
-pub turn-theorem : (rules : Rules) (a : Account) (i : Incoming) → LawfulRules rules → Sound a → OnlyTurn rules a i (turn_fills rules a i)
-turn-theorem rules a i lawful sound = record { turn = turn-right rules a i lawful sound; only = turn_only rules a i lawful sound }
+pub turn_theorem : (rules : Rules) (a : Account) (i : Incoming) → LawfulRules rules → Sound a → OnlyTurn rules a i (turn_fills rules a i)
+turn_theorem rules a i lawful sound = record { turn = turn_right rules a i lawful sound; only = turn_only rules a i lawful sound }

@@ -23,8 +23,8 @@ module _ {A : Type 0} where
   pub filled_more : (xs : List A) (y : A) (n : ℕ) → n < length xs → set (filled xs y n) n y ≡ filled xs y (n + 1)
   filled_more xs y n h = let z : n ≡ 0 + n = omega arith in ap (λ (k : ℕ). set (filled xs y n) k y) z ∙ fill_from_more xs 0 n y (omega arith)
 
-  pub filled-all : (xs : List A) (y : A) (n : ℕ) → n ≡ length xs → filled xs y n ≡ replicate (length xs) y
-  filled-all xs y n e =
+  pub filled_all : (xs : List A) (y : A) (n : ℕ) → n ≡ length xs → filled xs y n ≡ replicate (length xs) y
+  filled_all xs y n e =
       let long : length (replicate n y) ≡ n = length-replicate n y in
       paste_all xs 0 (replicate n y) n (omega arith)
       ∙ ap (λ (l : List A). replicate n y ++ l) (drop_all (0 + n) xs (omega arith))
@@ -44,8 +44,8 @@ module _ {A : Type 0} where
     pub closed_front : take k ys ≡ keep t xs
     closed_front = FiltersInPlace-all h (omega arith) ∙ keep_is t xs
 
-    pub closed-count : k ≡ length (keep t xs)
-    closed-count = let long : length (take k ys) ≡ k = length-take-le k ys (omega (arith, h.behind, h.long)) in sym long ∙ ap length closed_front
+    pub closed_count : k ≡ length (keep t xs)
+    closed_count = let long : length (take k ys) ≡ k = length-take-le k ys (omega (arith, h.behind, h.long)) in sym long ∙ ap length closed_front
 
     -- what was kept in front, and the rest blanked
     pub closed_all : {zs : List A} (y : A) → zs ≡ take k ys ++ replicate (length ys - k) y → zs ≡ keep t xs ++ replicate (length xs - k) y

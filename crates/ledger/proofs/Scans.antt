@@ -11,14 +11,14 @@ use Rattle.law.specs.Memories.{capacity, lawful_intents, lawful_table}
 use Rattle.ledger.specs.Places.{at, may_follow, position}
 
 module _ {A : Type 0} (t : A → Bool) (d : A) where
-  pub every-on : (xs : List A) (i : ℕ) → i < length xs → t (get_or xs i d) ≡ true → every t (drop i xs) ≡ every t (drop (i + 1) xs)
-  every-on xs i h e = at_drop_more (every t) xs i d h ∙ ap (λ (b : Bool). b && every t (drop (i + 1) xs)) e
+  pub every_on : (xs : List A) (i : ℕ) → i < length xs → t (get_or xs i d) ≡ true → every t (drop i xs) ≡ every t (drop (i + 1) xs)
+  every_on xs i h e = at_drop_more (every t) xs i d h ∙ ap (λ (b : Bool). b && every t (drop (i + 1) xs)) e
 
-  pub every-stop : (xs : List A) (i : ℕ) → i < length xs → t (get_or xs i d) ≡ false → every t (drop i xs) ≡ false
-  every-stop xs i h e = at_drop_more (every t) xs i d h ∙ ap (λ (b : Bool). b && every t (drop (i + 1) xs)) e
+  pub every_stop : (xs : List A) (i : ℕ) → i < length xs → t (get_or xs i d) ≡ false → every t (drop i xs) ≡ false
+  every_stop xs i h e = at_drop_more (every t) xs i d h ∙ ap (λ (b : Bool). b && every t (drop (i + 1) xs)) e
 
-  pub every-end : (xs : List A) (i : ℕ) → length xs ≤ i → every t (drop i xs) ≡ true
-  every-end xs i h = at_drop_all (every t) xs i h
+  pub every_end : (xs : List A) (i : ℕ) → length xs ≤ i → every t (drop i xs) ≡ true
+  every_end xs i h = at_drop_all (every t) xs i h
 
 module _ (last next : ℕ) (xs : List Intent) (i : ℕ) (h : i < length xs) where
   regroup : (a b c d : Bool) → a && (b && (c && d)) ≡ (a && (b && c)) && d
@@ -29,29 +29,29 @@ module _ (last next : ℕ) (xs : List Intent) (i : ℕ) (h : i < length xs) wher
   step : lawful_intents last next (drop i xs) ≡ may_follow last next (at xs i) && lawful_intents (at xs i).number next (drop (i + 1) xs)
   step = at_drop_more (lawful_intents last next) xs i blank_intent h ∙ regroup (in_range (at xs i)) (ltb last (at xs i).number) (ltb (at xs i).number next) (lawful_intents (at xs i).number next (drop (i + 1) xs))
 
-  pub lawful-on : may_follow last next (at xs i) ≡ true → lawful_intents last next (drop i xs) ≡ lawful_intents (at xs i).number next (drop (i + 1) xs)
-  lawful-on e = step ∙ ap (λ (b : Bool). b && lawful_intents (at xs i).number next (drop (i + 1) xs)) e
+  pub lawful_on : may_follow last next (at xs i) ≡ true → lawful_intents last next (drop i xs) ≡ lawful_intents (at xs i).number next (drop (i + 1) xs)
+  lawful_on e = step ∙ ap (λ (b : Bool). b && lawful_intents (at xs i).number next (drop (i + 1) xs)) e
 
-  pub lawful-stop : may_follow last next (at xs i) ≡ false → lawful_intents last next (drop i xs) ≡ false
-  lawful-stop e = step ∙ ap (λ (b : Bool). b && lawful_intents (at xs i).number next (drop (i + 1) xs)) e
+  pub lawful_stop : may_follow last next (at xs i) ≡ false → lawful_intents last next (drop i xs) ≡ false
+  lawful_stop e = step ∙ ap (λ (b : Bool). b && lawful_intents (at xs i).number next (drop (i + 1) xs)) e
 
-pub lawful-end : (last next : ℕ) (xs : List Intent) (i : ℕ) → length xs ≤ i → lawful_intents last next (drop i xs) ≡ true
-lawful-end last next xs i h = at_drop_all (lawful_intents last next) xs i h
+pub lawful_end : (last next : ℕ) (xs : List Intent) (i : ℕ) → length xs ≤ i → lawful_intents last next (drop i xs) ≡ true
+lawful_end last next xs i h = at_drop_all (lawful_intents last next) xs i h
 
 module _ (n : ℕ) (xs : List Intent) (i : ℕ) where
   pub position_here : i < length xs → (at xs i).number ≡ n → position n (drop i xs) ≡ 0
   position_here h e = at_drop_more (position n) xs i blank_intent h ∙ cond-true (eqb (at xs i).number n) 0 _ (eq-eqb _ _ e)
 
-  pub position-on : i < length xs → ((at xs i).number ≡ n → ⊥) → i + position n (drop i xs) ≡ i + 1 + position n (drop (i + 1) xs)
-  position-on h e = let s = at_drop_more (position n) xs i blank_intent h ∙ cond-false (eqb (at xs i).number n) 0 (suc (position n (drop (i + 1) xs))) (ne_eqb _ _ e) in omega arith
+  pub position_on : i < length xs → ((at xs i).number ≡ n → ⊥) → i + position n (drop i xs) ≡ i + 1 + position n (drop (i + 1) xs)
+  position_on h e = let s = at_drop_more (position n) xs i blank_intent h ∙ cond-false (eqb (at xs i).number n) 0 (suc (position n (drop (i + 1) xs))) (ne_eqb _ _ e) in omega arith
 
-  pub position-end : length xs ≤ i → position n (drop i xs) ≡ 0
-  position-end h = at_drop_all (position n) xs i h
+  pub position_end : length xs ≤ i → position n (drop i xs) ≡ 0
+  position_end h = at_drop_all (position n) xs i h
 
 -- a table whose count fits is judged by its two parts
-pub lawful-parts : (count next : ℕ) (table : List Intent) → count ≤ capacity table →
+pub lawful_parts : (count next : ℕ) (table : List Intent) → count ≤ capacity table →
     lawful_table count next table ≡ lawful_intents 0 next (take (count - 0) table) && every is_blank (take (capacity table - count) (drop count table))
-lawful-parts count next table h =
+lawful_parts count next table h =
     let front : count ≡ count - 0 = omega arith in
     let whole : capacity table ≡ count + (capacity table - count) = omega arith in
     ap (λ (b : Bool). b && (lawful_intents 0 next (take count table) && every is_blank (drop count (take (capacity table) table)))) (le-leb count (capacity table) h)

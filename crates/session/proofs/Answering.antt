@@ -8,24 +8,24 @@ use Rattle.law.specs.Checks.{checked, checks}
 use Rattle.law.specs.Memories.{Memory, account}
 use Rattle.law.specs.Outcomes.{call_fills, outcome, after}
 use Rattle.law.specs.Turns.{Rules}
-use Rattle.law.proofs.Checked.{checked-ok, checked-err}
-use Rattle.law.proofs.Outcomes.{outcome-is}
+use Rattle.law.proofs.Checked.{checked_ok, checked_err}
+use Rattle.law.proofs.Outcomes.{outcome_is}
 
 -- `made` is the call that was asked for
 module _ {A : Type 0} (rules : Rules) (m : Memory) (call made : Call) (is : call ≡ made) (x : A) where
   -- an answer passes through
   pub answered : (e : A) (f : A → Answer) → answer_of (account m) made (call_fills rules (account m) made) ≡ f x → Ok e ≡ checked (checks m made) x → Ok (f e) ≡ outcome rules m call
   answered e f whole h =
-      let passed = checked-ok (checks m made) x e x (sym h) in
+      let passed = checked_ok (checks m made) x e x (sym h) in
       let same : e ≡ x = cc in
-      ap (λ (y : A). Ok (f y)) same ∙ ap Ok (sym whole) ∙ sym (checked-ok (checks m made) x e (answer_of (account m) made (call_fills rules (account m) made)) (sym h))
-      ∙ sym (outcome-is rules m made) ∙ ap (outcome rules m) (sym is)
+      ap (λ (y : A). Ok (f y)) same ∙ ap Ok (sym whole) ∙ sym (checked_ok (checks m made) x e (answer_of (account m) made (call_fills rules (account m) made)) (sym h))
+      ∙ sym (outcome_is rules m made) ∙ ap (outcome rules m) (sym is)
 
   -- a refusal passes unchanged
   pub refused : (r : Result Answer Refusal) (y e : Refusal) → r ≡ Err y → y ≡ e → Err e ≡ checked (checks m made) x → r ≡ outcome rules m call
   refused r y e came same h =
-      came ∙ ap Err same ∙ sym (checked-err (checks m made) x (answer_of (account m) made (call_fills rules (account m) made)) e (sym h))
-      ∙ sym (outcome-is rules m made) ∙ ap (outcome rules m) (sym is)
+      came ∙ ap Err same ∙ sym (checked_err (checks m made) x (answer_of (account m) made (call_fills rules (account m) made)) e (sym h))
+      ∙ sym (outcome_is rules m made) ∙ ap (outcome rules m) (sym is)
 
 -- and so does what it leaves behind
 pub left_by : (rules : Rules) (m m' : Memory) (call made : Call) → call ≡ made → m' ≡ after rules m made → m' ≡ after rules m call

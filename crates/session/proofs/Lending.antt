@@ -18,8 +18,8 @@ pub lent_back : {A : Type 0} (new items : List A) (len : ℕ) → length new ≡
 lent_back new items len e = take_at new (drop (length new) items) len e
 
 -- as many of the first as there are
-pub take-least : {A : Type 0} (xs : List A) (n k : ℕ) → k ≡ min n (length xs) → take (k - 0) xs ≡ take n xs
-take-least xs n k e =
+pub take_least : {A : Type 0} (xs : List A) (n k : ℕ) → k ≡ min n (length xs) → take (k - 0) xs ≡ take n xs
+take_least xs n k e =
     let z : k - 0 ≡ k = omega arith in
     ap (λ (j : ℕ). take j xs) (z ∙ e) ∙ ⊎_elim (λ l. let s : min n (length xs) ≡ n = omega arith in ap (λ (j : ℕ). take j xs) s) (λ l. take_all (min n (length xs)) xs (omega arith) ∙ sym (take_all n xs l)) (cases_lt n (length xs))
 
@@ -32,8 +32,8 @@ pub lent : (l : Ledger) (table table' : List Intent) (page page' : List Slip) �
 lent l table table' page page' a b = λ j. memory l (a j) (b j)
 
 -- a new book's blanks on a new table change nothing
-pub blank-again : (places : ℕ) → laid_out [] (replicate places blank_intent) ≡ replicate places blank_intent
-blank-again places =
+pub blank_again : (places : ℕ) → laid_out [] (replicate places blank_intent) ≡ replicate places blank_intent
+blank_again places =
     let room : ℕ = capacity (replicate places blank_intent) in
     let long : length (replicate places blank_intent) ≡ places = length-replicate places blank_intent in
     let whole : room - length {A = Intent} [] ≡ room = omega arith in
@@ -46,11 +46,11 @@ blank-again places =
 
 module _ (rules : Rules) (l : Ledger) (table : List Intent) (page : List Slip) where
   -- cancel leaves the page as it is
-  pub without-page : (subscriber n : ℕ) → (l' : Ledger) (table' : List Intent) →
+  pub without_page : (subscriber n : ℕ) → (l' : Ledger) (table' : List Intent) →
       l' ≡ ledger_of (after rules (memory l table []) (cancel_call subscriber n)) → table' ≡ (after rules (memory l table []) (cancel_call subscriber n)).table →
       memory l' table' page ≡ after rules (memory l table page) (cancel_call subscriber n)
   unfolding after
-  without-page subscriber n l' table' a b =
+  without_page subscriber n l' table' a b =
       by (is_ok (checked {A = Unit {0}} (cancel_checks (memory l table page) subscriber n) tt)) a b
     where
       by : (v : Bool) → l' ≡ ledger_of (cond v (accepted rules (memory l table []) (cancel_call subscriber n)) (memory l table [])) →
@@ -60,10 +60,10 @@ module _ (rules : Rules) (l : Ledger) (table : List Intent) (page : List Slip) w
       by false a b = λ j. memory (a j) (b j) page
 
   -- list leaves table and page as they are
-  pub without-memory : (s : ℕ) (l' : Ledger) → l' ≡ unless_refused (list_checks (memory l [] []) s) (with_listed l s) l →
+  pub without_memory : (s : ℕ) (l' : Ledger) → l' ≡ unless_refused (list_checks (memory l [] []) s) (with_listed l s) l →
       memory l' table page ≡ after rules (memory l table page) (list_call s)
   unfolding after
-  without-memory s l' a = by (is_ok (checked {A = Unit {0}} (list_checks (memory l table page) s) tt)) a
+  without_memory s l' a = by (is_ok (checked {A = Unit {0}} (list_checks (memory l table page) s) tt)) a
     where
       by : (v : Bool) → l' ≡ cond v (with_listed l s) l → memory l' table page ≡ cond v (accepted rules (memory l table page) (list_call s)) (memory l table page)
       by true a = λ j. memory (a j) table page

@@ -36,8 +36,8 @@ more s i h other inv =
     ∙ sym (prefixed_push (take i s) (get_or s i 0) (lines (drop (i + 1) s)))
     ∙ ap (λ (t : List ℕ). prefixed t (lines (drop (i + 1) s))) (sym (take_more s i 0 h))
 
-pub found-end : (s : List ℕ) (i : ℕ) → i < length s → get_or s i 0 ≡ 10 → lines s ≡ prefixed (take i s) (lines (drop i s)) → lines s ≡ cut (Some i) s
-found-end s i h here inv =
+pub found_end : (s : List ℕ) (i : ℕ) → i < length s → get_or s i 0 ≡ 10 → lines s ≡ prefixed (take i s) (lines (drop i s)) → lines s ≡ cut (Some i) s
+found_end s i h here inv =
     inv
     ∙ ap (λ (t : List ℕ). prefixed (take i s) (lines t)) (drop_more s i 0 h)
     ∙ ap (prefixed (take i s)) (lines_by (get_or s i 0) (drop (i + 1) s) true (eq-eqb _ _ here))

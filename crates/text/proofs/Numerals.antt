@@ -8,8 +8,8 @@ grows : (n : ℕ) (cs : List ℕ) → n ≤ value_on n cs
 grows n [] = omega arith
 grows n (c ∷ cs) = omega (arith, grows (n * 10 + (c - 48)) cs)
 
-pub within-over : (n : ℕ) (cs : List ℕ) → 4294967295 < n → within n cs ≡ None
-within-over n cs h = let g = grows n cs in grind (arith, nat_tests)
+pub within_over : (n : ℕ) (cs : List ℕ) → 4294967295 < n → within n cs ≡ None
+within_over n cs h = let g = grows n cs in grind (arith, nat_tests)
 
 -- by whether the first byte is a digit
 within_by : (n c : ℕ) (cs : List ℕ) (b : Bool) → digit c ≡ b → within n (c ∷ cs) ≡ cond b (within (n * 10 + (c - 48)) cs) None

@@ -29,8 +29,8 @@ module _ (s r : List ℕ) (at n : ℕ) (rest : r ≡ drop at s) where
   none_left empty due inside =
       ap (λ (t : List ℕ). read (lines t) n due) (sym rest ∙ nil_from_length r empty) ∙ ap (λ (b : Bool). cond b (faulty Unfinished n) end) inside
 
-  pub not-ended : lines r ≡ cut None r → (length r ≡ 0 → ⊥) → (due : Due) → read (lines (drop at s)) n due ≡ faulty Unfinished (n + 1)
-  not-ended ends some due =
+  pub not_ended : lines r ≡ cut None r → (length r ≡ 0 → ⊥) → (due : Due) → read (lines (drop at s)) n due ≡ faulty Unfinished (n + 1)
+  not_ended ends some due =
       ap (λ (t : List ℕ). read (lines t) n due) (sym rest) ∙ ap (λ (ls : List Line). read ls n due) ends ∙ unended_read n due r some
 
 -- where something is left, it makes no difference that no call has begun

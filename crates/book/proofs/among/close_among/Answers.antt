@@ -1,7 +1,7 @@
 use Rattle.std.proofs.Common.{◌≡◌, ℕ, ◌-◌, length, take, drop, ap, ◌∙◌, arith}
 use Rattle.law.specs.Lists.{keep}
 use Rattle.ledger.specs.Places.{live}
-use Rattle.book.proofs.Fronts.{closed-take}
+use Rattle.book.proofs.Fronts.{closed_take}
 use Rattle.book.proofs.among.close_among.Goals as goal
 
 pub returns : goal.returns
@@ -11,5 +11,5 @@ returns c =
     let z : n - 0 ≡ n = omega arith in
     record {
       count = c.close-up.ensures.count ∙ ap (λ (k : ℕ). length (keep live (take k xs))) z;
-      table = closed-take xs (n - 0) n c.close-up.result z c.requires (ap (λ (k : ℕ). drop k xs) z) c.close-up.ensures.table;
+      table = closed_take xs (n - 0) n c.close-up.result z c.requires (ap (λ (k : ℕ). drop k xs) z) c.close-up.ensures.table;
     }

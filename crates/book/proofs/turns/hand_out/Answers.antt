@@ -1,22 +1,22 @@
 use Rattle.std.proofs.Common.{arith}
 use Rattle.ledger.specs.Places.{at}
-use Rattle.book.proofs.Turning.{ready-live, underway-spent, underway-none, underway-room, underway-more}
+use Rattle.book.proofs.Turning.{ready_live, underway_spent, underway_none, underway_room, underway_more}
 use Rattle.book.proofs.turns.hand_out.Goals as goal
 
 pub bounds-page-from : goal.bounds-page-from
 bounds-page-from g c =
-    omega (arith, underway-room c.loop-left.invariant (g.met.P.Priority.total c.args.priority.now c.args.incoming.now.subscriber) c.in-Some.i c.loop-left-test.true c.in-Some.ensures c.min_volume.result c.min_volume.ensures, c.requires.room)
+    omega (arith, underway_room c.loop-left.invariant (g.met.P.Priority.total c.args.priority.now c.args.incoming.now.subscriber) c.in-Some.i c.loop-left-test.true c.in-Some.ensures c.min_volume.result c.min_volume.ensures, c.requires.room)
 
 pub loop-left-smaller : goal.loop-left-smaller
 loop-left-smaller g c =
-    omega (arith, ready-live c.args.quote.now c.args.price c.args.incoming.now (at c.loop-left.intents c.in-Some.i) c.in-Some.ensures.ready_there)
+    omega (arith, ready_live c.args.quote.now c.args.price c.args.incoming.now (at c.loop-left.intents c.in-Some.i) c.in-Some.ensures.ready_there)
 
 pub loop-left-preserved : goal.loop-left-preserved
 loop-left-preserved g c =
-    rw c.active-number-active.ensures (underway-more c.loop-left.invariant (g.met.P.Priority.total c.args.priority.now c.args.incoming.now.subscriber) c.in-Some.i c.loop-left-test.true c.in-Some.ensures c.min_volume.result c.min_volume.ensures)
+    rw c.active-number-active.ensures (underway_more c.loop-left.invariant (g.met.P.Priority.total c.args.priority.now c.args.incoming.now.subscriber) c.in-Some.i c.loop-left-test.true c.in-Some.ensures c.min_volume.result c.min_volume.ensures)
 
 pub returns-after-loop-left : goal.returns-after-loop-left
-returns-after-loop-left g c = underway-spent c.loop-left.invariant c.loop-left-test.false
+returns-after-loop-left g c = underway_spent c.loop-left.invariant c.loop-left-test.false
 
 pub returns-in-default : goal.returns-in-default
-returns-in-default g c = underway-none c.loop-left.invariant c.in-default.ensures
+returns-in-default g c = underway_none c.loop-left.invariant c.in-default.ensures

@@ -4,7 +4,7 @@ use Rattle.std.proofs.lemmas.Bool.{lt-ltb, le-ltb}
 use Rattle.std.proofs.lemmas.List.Filters.{FiltersInPlace-more_no, FiltersInPlace-more_set}
 use Rattle.rules.specs.declared.intents.Intent.{Intent}
 use Rattle.rules.specs.Blanks.{blank_intent}
-use Rattle.ledger.proofs.Closing.{written_on, closed-count, closed_all}
+use Rattle.ledger.proofs.Closing.{written_on, closed_count, closed_all}
 use Rattle.ledger.specs.Places.{at}
 use Rattle.ledger.proofs.tables.close_up.Goals as goal
 use Rattle.ledger.proofs.tables.close_up.Goals.{then-table-i-gt0, else-table-i-gt0}
@@ -31,6 +31,6 @@ returns c =
     let blanks : c.blank.new.places ≡ replicate m blank_intent = c.blank.ensures ∙ ap (λ (n : ℕ). replicate n blank_intent) size in
     let long : length c.blank.new.places ≡ m = ap length blanks ∙ length-replicate m blank_intent in
     record {
-      count = closed-count c.loop-i.invariant (omega arith);
+      count = closed_count c.loop-i.invariant (omega arith);
       table = closed_all c.loop-i.invariant (omega arith) blank_intent (written_on ys c.blank.new.places k short long ∙ ap (λ (l : List Intent). take k ys ++ l) blanks);
     }

@@ -2,7 +2,7 @@ use Rattle.std.proofs.Common.{ℕ, ◌-◌, Bool, ◌&&◌, take, drop, sym, ap,
 use Rattle.rules.specs.Intents.{is_blank}
 use Rattle.law.specs.Lists.{every}
 use Rattle.law.specs.Memories.{capacity}
-use Rattle.ledger.proofs.Scans.{lawful-parts}
+use Rattle.ledger.proofs.Scans.{lawful_parts}
 use Rattle.ledger.proofs.tables.is_lawful.Goals as goal
 
 pub returns-then-are-lawful : goal.returns-then-are-lawful
@@ -12,4 +12,4 @@ returns-then-are-lawful c =
     c.are-blank.ensures
     ∙ ap (λ (k : ℕ). every is_blank (take (k - count) (drop count table))) c.capacity-of-capacity.ensures
     ∙ ap (λ (b : Bool). b && every is_blank (take (capacity table - count) (drop count table))) c.if-are-lawful.ensures
-    ∙ sym (lawful-parts count c.args.next table (omega arith))
+    ∙ sym (lawful_parts count c.args.next table (omega arith))

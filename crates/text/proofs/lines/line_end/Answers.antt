@@ -1,4 +1,4 @@
-use Rattle.text.proofs.Cuts.{more, found-end, no_end}
+use Rattle.text.proofs.Cuts.{more, found_end, no_end}
 use Rattle.text.proofs.lines.line_end.Goals as goal
 
 pub loop-i-preserved : goal.loop-i-preserved
@@ -11,5 +11,5 @@ pub returns-then-byte-eq10 : goal.returns-then-byte-eq10
 returns-then-byte-eq10 c =
     record {
       within = c.loop-i-test.true;
-      lines = found-end c.args.text.now c.loop-i.i c.loop-i-test.true c.if-byte-eq10.true c.loop-i.invariant;
+      lines = found_end c.args.text.now c.loop-i.i c.loop-i-test.true c.if-byte-eq10.true c.loop-i.invariant;
     }

@@ -1,5 +1,5 @@
 use Rattle.std.proofs.Common.{◌+◌, ◌<◌, ◌⊎◌, get_or, drop, sym, ◌∙◌, inl, inr}
-use Rattle.text.proofs.Numerals.{next, stops, ends, within-over}
+use Rattle.text.proofs.Numerals.{next, stops, ends, within_over}
 use Rattle.text.proofs.numbers.number.Goals as goal
 use Rattle.text.proofs.numbers.number.Goals.{then-b-lt48-via-then-b-lt48, then-b-lt48-via-else-b-lt48+then-b-gt57}
 
@@ -14,7 +14,7 @@ pub returns-then-n-gt-LARGEST : goal.returns-then-n-gt-LARGEST
 returns-then-n-gt-LARGEST c =
     let s = c.args.value.now in
     let i = c.loop-b.b-index in
-    sym (c.loop-b.invariant.1 ∙ next s i c.loop-b.n c.loop-b-test.true c.if-b-lt48.false c.if-b-gt57.false ∙ within-over _ (drop (i + 1) s) c.if-n-gt-LARGEST.true)
+    sym (c.loop-b.invariant.1 ∙ next s i c.loop-b.n c.loop-b-test.true c.if-b-lt48.false c.if-b-gt57.false ∙ within_over _ (drop (i + 1) s) c.if-n-gt-LARGEST.true)
 
 pub loop-b-preserved : goal.loop-b-preserved
 loop-b-preserved c =

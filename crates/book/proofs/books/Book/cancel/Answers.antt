@@ -6,8 +6,8 @@ use Rattle.law.specs.Memories.{Memory, account}
 use Rattle.ledger.specs.Ledgers.{memory, ledger_of}
 use Rattle.ledger.specs.Places.{position}
 use Rattle.book.specs.InPlace.{rules_by}
-use Rattle.book.proofs.Calling.{refused-by}
-use Rattle.book.proofs.Cancelling.{cancel-answered, cancel-after}
+use Rattle.book.proofs.Calling.{refused_by}
+use Rattle.book.proofs.Cancelling.{cancel_answered, cancel_after}
 use Rattle.book.proofs.books.Book.cancel.Goals as goal
 
 pub returns-in-err-place : goal.returns-in-err-place
@@ -16,7 +16,7 @@ returns-in-err-place g c =
     let m = memory c.args.self.now.ledger c.args.table.now [] in
     let n = c.args.number in
     let p = err_from_is_err_and c.from-residual.result c.from-residual.ensures.1 in
-    let refused = refused-by rules m (cancel_call c.args.subscriber n) (withdrawn (account m) n) (position n (account m).resting) c.from-residual.result p.0 _ p.1 p.2 c.in-err-place.ensures.answer in
+    let refused = refused_by rules m (cancel_call c.args.subscriber n) (withdrawn (account m) n) (position n (account m).resting) c.from-residual.result p.0 _ p.1 p.2 c.in-err-place.ensures.answer in
     record { answer = refused.answer; book = ap ledger_of refused.stays; table = ap (λ (x : Memory). x.table) refused.stays; priority = refl; rule = refl }
 
 pub returns : goal.returns
@@ -24,9 +24,9 @@ returns g c =
     let rules = rules_by (g.P.Priority.ahead c.args.self.now.priority) (g.R.PriceRule.price c.args.self.now.rule) g.R.PriceRule.mark in
     let m = memory c.args.self.now.ledger c.args.table.now [] in
     let passed = c.in-ok-place.ensures.answer in
-    let left = cancel-after rules m c.args.subscriber c.args.number c.in-ok-place.place passed c.close-among-self.result c.close-among-self.new.table c.close-among-self.ensures.count c.close-among-self.ensures.table in
+    let left = cancel_after rules m c.args.subscriber c.args.number c.in-ok-place.place passed c.close-among-self.result c.close-among-self.new.table c.close-among-self.ensures.count c.close-among-self.ensures.table in
     record {
-      answer = cancel-answered rules m c.args.subscriber c.args.number c.in-ok-place.place passed;
+      answer = cancel_answered rules m c.args.subscriber c.args.number c.in-ok-place.place passed;
       book = ap ledger_of left;
       table = ap (λ (x : Memory). x.table) left;
       priority = refl;

@@ -4,7 +4,7 @@ use Rattle.std.proofs.lemmas.Bool.{leb-true}
 use Rattle.rules.specs.declared.incoming.Incoming.{Incoming}
 use Rattle.rules.specs.declared.intents.Intent.{Intent}
 use Rattle.rules.specs.Incoming.{intent_incoming}
-use Rattle.law.proofs.Checked.{checked-passes}
+use Rattle.law.proofs.Checked.{checked_passes}
 use Rattle.law.specs.declared.calls.Call.TheVariants.{Enter as enter_call}
 use Rattle.law.specs.Accounts.{with_left, new_intent}
 use Rattle.law.specs.Calls.{entered}
@@ -16,8 +16,8 @@ use Rattle.law.specs.Turns.{LawfulRules}
 use Rattle.ledger.specs.Ledgers.{memory, ledger_of}
 use Rattle.book.specs.InPlace.{rules_by}
 use Rattle.book.specs.Matches.{ComesNew, Matched}
-use Rattle.book.proofs.Calling.{Passed, refused-by, turned-by-law}
-use Rattle.book.proofs.Entering.{free, enter-answered, enter-after}
+use Rattle.book.proofs.Calling.{Passed, refused_by, turned_by_law}
+use Rattle.book.proofs.Entering.{free, enter_answered, enter_after}
 use Rattle.book.proofs.books.Book.enter.Goals as goal
 
 pub returns-in-err-check-enter : goal.returns-in-err-check-enter
@@ -27,7 +27,7 @@ returns-in-err-check-enter g c =
     let t = c.args.terms.now in
     let fs = turn_fills rules (account m) (intent_incoming (new_intent m.next t)) in
     let p = err_from_is_err_and c.from-residual.result c.from-residual.ensures.1 in
-    let refused = refused-by rules m (enter_call t) (entered (account m) t fs) tt c.from-residual.result p.0 _ p.1 p.2 c.in-err-check-enter.ensures in
+    let refused = refused_by rules m (enter_call t) (entered (account m) t fs) tt c.from-residual.result p.0 _ p.1 p.2 c.in-err-check-enter.ensures in
     record {
       answer = refused.answer;
       book = ap ledger_of refused.stays;
@@ -43,7 +43,7 @@ pub match-incoming-turned-requires : goal.match-incoming-turned-requires
 match-incoming-turned-requires g c =
     let m = memory c.args.self.now.ledger c.args.table.now c.args.page.now in
     let t = c.args.terms.now in
-    let tests = checked-passes (enter_checks m t) tt tt (sym c.in-ok-check-enter.ensures) in
+    let tests = checked_passes (enter_checks m t) tt tt (sym c.in-ok-check-enter.ensures) in
     let incoming = c.incoming.ensures ∙ ap intent_incoming c.intent-intent.ensures in
     let same : m.next ≤ m.next = omega arith in
     record { lawful = tests.0; room = leb-true _ _ tests.1.0; new = subst (λ (i : Incoming). ComesNew i.number m.next) (sym incoming) same }
@@ -52,7 +52,7 @@ pub overflow-add-self : goal.overflow-add-self
 overflow-add-self g c =
     let m = memory c.args.self.now.ledger c.args.table.now c.args.page.now in
     let t = c.args.terms.now in
-    let tests = checked-passes (enter_checks m t) tt tt (sym c.in-ok-check-enter.ensures) in
+    let tests = checked_passes (enter_checks m t) tt tt (sym c.in-ok-check-enter.ensures) in
     let below = leb-true m.next 999999999 tests.1.1.1.1.1.1.1.1.0 in
     omega arith
 
@@ -80,14 +80,14 @@ returns g c =
     let incoming = c.incoming.ensures ∙ ap intent_incoming c.intent-intent.ensures in
     let matched : Matched rules (intent_incoming new) m m' r = subst (λ (i : Incoming). Matched rules i m m' r) incoming c.match-incoming-turned.ensures.matched in
     let table = c.rest-behind-self.ensures.table ∙ ap (λ (x : Intent). cond (ltb 0 r.left) (set m'.table m'.count (with_left x r.left)) m'.table) c.intent-intent.ensures in
-    let left = enter-after rules m t passed m' r matched c.rest-behind-self.result c.rest-behind-self.new.table c.rest-behind-self.ensures.count table in
+    let left = enter_after rules m t passed m' r matched c.rest-behind-self.result c.rest-behind-self.new.table c.rest-behind-self.ensures.count table in
     record {
-      answer = enter-answered rules m t passed m' r matched;
+      answer = enter_answered rules m t passed m' r matched;
       book = ap ledger_of left;
       table = ap (λ (x : Memory). x.table) left;
       page = ap (λ (x : Memory). x.page) left;
       fits = matched.fits;
       priority = c.match-incoming-turned.ensures.priority;
       rule = c.match-incoming-turned.ensures.rule;
-      turn = turned-by-law rules lawful m m' (intent_incoming new) r matched (checked-passes (enter_checks m t) tt tt passed).0;
+      turn = turned_by_law rules lawful m m' (intent_incoming new) r matched (checked_passes (enter_checks m t) tt tt passed).0;
     }

@@ -1,10 +1,10 @@
 use Rattle.std.proofs.Common.{take, refl, arith}
-use Rattle.law.proofs.Lawful.{table-parts, lawful-count}
-use Rattle.law.proofs.Lists.{keep-short}
+use Rattle.law.proofs.Lawful.{table_parts, lawful_count}
+use Rattle.law.proofs.Lists.{keep_short}
 use Rattle.ledger.specs.Ledgers.{memory}
 use Rattle.ledger.specs.Places.{live}
 use Rattle.book.specs.InPlace.{rules_by}
-use Rattle.book.proofs.Matching.{lawful-distinct, matched}
+use Rattle.book.proofs.Matching.{lawful_distinct, matched}
 use Rattle.book.proofs.books.Book.match_incoming.Goals as goal
 
 pub turn-among-turned-requires : goal.turn-among-turned-requires
@@ -12,9 +12,9 @@ turn-among-turned-requires g c =
     let l = c.args.self.now.ledger in
     let table = c.args.table.now in
     record {
-      within = omega (arith, (table-parts l.count l.next table c.requires.lawful).fits);
-      apart = lawful-distinct l.count l.next table c.requires.lawful;
-      room = omega (arith, keep-short live (take l.count table), lawful-count l.count l.next table c.requires.lawful, c.requires.room);
+      within = omega (arith, (table_parts l.count l.next table c.requires.lawful).fits);
+      apart = lawful_distinct l.count l.next table c.requires.lawful;
+      room = omega (arith, keep_short live (take l.count table), lawful_count l.count l.next table c.requires.lawful, c.requires.room);
     }
 
 pub returns : goal.returns

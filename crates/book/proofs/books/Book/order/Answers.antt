@@ -3,7 +3,7 @@ use Rattle.std.proofs.lemmas.Result.{err_from_is_err_and, IfOk-from_err}
 use Rattle.std.proofs.lemmas.Bool.{leb-true}
 use Rattle.rules.specs.declared.incoming.Incoming.{Incoming}
 use Rattle.rules.specs.Incoming.{order_incoming}
-use Rattle.law.proofs.Checked.{checked-passes}
+use Rattle.law.proofs.Checked.{checked_passes}
 use Rattle.law.specs.declared.calls.Call.TheVariants.{Order as order_call}
 use Rattle.law.specs.Checks.{order_checks}
 use Rattle.law.specs.Calls.{ordered}
@@ -14,8 +14,8 @@ use Rattle.law.specs.Turns.{LawfulRules}
 use Rattle.ledger.specs.Ledgers.{memory, ledger_of}
 use Rattle.book.specs.InPlace.{rules_by}
 use Rattle.book.specs.Matches.{ComesNew, Matched}
-use Rattle.book.proofs.Calling.{Passed, refused-by, turned-by-law}
-use Rattle.book.proofs.Ordering.{order-answered, order-after}
+use Rattle.book.proofs.Calling.{Passed, refused_by, turned_by_law}
+use Rattle.book.proofs.Ordering.{order_answered, order_after}
 use Rattle.book.proofs.books.Book.order.Goals as goal
 
 pub returns-in-err-check-order : goal.returns-in-err-check-order
@@ -25,7 +25,7 @@ returns-in-err-check-order g c =
     let o = c.args.order.now in
     let fs = turn_fills rules (account m) (order_incoming o) in
     let p = err_from_is_err_and c.from-residual.result c.from-residual.ensures.1 in
-    let refused = refused-by rules m (order_call o) (ordered o fs) tt c.from-residual.result p.0 _ p.1 p.2 c.in-err-check-order.ensures in
+    let refused = refused_by rules m (order_call o) (ordered o fs) tt c.from-residual.result p.0 _ p.1 p.2 c.in-err-check-order.ensures in
     record {
       answer = refused.answer;
       book = ap ledger_of refused.stays;
@@ -41,7 +41,7 @@ pub match-incoming-turned-requires : goal.match-incoming-turned-requires
 match-incoming-turned-requires g c =
     let m = memory c.args.self.now.ledger c.args.table.now c.args.page.now in
     let o = c.args.order.now in
-    let tests = checked-passes (order_checks m o) tt tt (sym c.in-ok-check-order.ensures) in
+    let tests = checked_passes (order_checks m o) tt tt (sym c.in-ok-check-order.ensures) in
     record { lawful = tests.0; room = leb-true _ _ tests.1.0; new = subst (λ (i : Incoming). ComesNew i.number m.next) (sym c.incoming.ensures) tt }
 
 pub returns : goal.returns
@@ -54,14 +54,14 @@ returns g c =
     let r = c.match-incoming-turned.result in
     let passed : Passed (order_checks m o) = sym c.in-ok-check-order.ensures in
     let matched : Matched rules (order_incoming o) m m' r = subst (λ (i : Incoming). Matched rules i m m' r) c.incoming.ensures c.match-incoming-turned.ensures.matched in
-    let left : m' ≡ after rules m (order_call o) = order-after rules m m' o r passed matched in
+    let left : m' ≡ after rules m (order_call o) = order_after rules m m' o r passed matched in
     record {
-      answer = order-answered rules m m' o r passed matched;
+      answer = order_answered rules m m' o r passed matched;
       book = ap ledger_of left;
       table = ap (λ (x : Memory). x.table) left;
       page = ap (λ (x : Memory). x.page) left;
       fits = matched.fits;
       priority = c.match-incoming-turned.ensures.priority;
       rule = c.match-incoming-turned.ensures.rule;
-      turn = turned-by-law rules lawful m m' (order_incoming o) r matched (checked-passes (order_checks m o) tt tt passed).0;
+      turn = turned_by_law rules lawful m m' (order_incoming o) r matched (checked_passes (order_checks m o) tt tt passed).0;
     }

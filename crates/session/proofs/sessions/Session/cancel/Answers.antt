@@ -4,7 +4,7 @@ use Rattle.law.specs.declared.calls.Call.TheVariants.{Cancel as cancel_call}
 use Rattle.law.specs.Outcomes.{cancel_answer, after}
 use Rattle.ledger.specs.Ledgers.{memory, ledger_of}
 use Rattle.book.specs.InPlace.{rules_by}
-use Rattle.session.proofs.Lending.{lent_back, without-page}
+use Rattle.session.proofs.Lending.{lent_back, without_page}
 use Rattle.session.proofs.sessions.Session.cancel.Goals as goal
 
 pub returns : goal.returns
@@ -19,7 +19,7 @@ returns g c =
     let table = back ∙ c.cancel.ensures.table ∙ ap (λ (t : List Intent). (after rules (memory l t []) call).table) value in
     record {
       answer = c.cancel.ensures.answer ∙ ap (λ (t : List Intent). cancel_answer (memory l t []) c.args.subscriber c.args.number) value;
-      memory = without-page rules l (vec_items s.table) (vec_items s.page) c.args.subscriber c.args.number _ _ book table;
+      memory = without_page rules l (vec_items s.table) (vec_items s.page) c.args.subscriber c.args.number _ _ book table;
       priority = c.cancel.ensures.priority;
       rule = c.cancel.ensures.rule;
     }

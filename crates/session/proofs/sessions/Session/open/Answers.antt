@@ -1,7 +1,7 @@
 use Rattle.std.proofs.Common.{[], ap, ◌∙◌}
 use Rattle.law.specs.Memories.{laid_out}
 use Rattle.session.specs.Memories.{new_memory}
-use Rattle.session.proofs.Lending.{lent_back, joined, blank-again}
+use Rattle.session.proofs.Lending.{lent_back, joined, blank_again}
 use Rattle.session.proofs.sessions.Session.open.Goals as goal
 
 pub returns : goal.returns
@@ -11,7 +11,7 @@ returns g c =
     let blanks = c.as-mut-slice.ensures.value ∙ c.in-ok-table.ensures.items-if-clones-equal (λ y e. e) in
     record {
       memory = joined _ _ _ (new_memory c.args.places) c.open-book.ensures.book
-          (back ∙ c.open-book.ensures.table ∙ ap (laid_out []) blanks ∙ blank-again c.args.places) (c.in-ok-page.ensures.items-if-clones-equal (λ y e. e));
+          (back ∙ c.open-book.ensures.table ∙ ap (laid_out []) blanks ∙ blank_again c.args.places) (c.in-ok-page.ensures.items-if-clones-equal (λ y e. e));
       priority = c.open-book.ensures.priority;
       rule = c.open-book.ensures.rule;
     }

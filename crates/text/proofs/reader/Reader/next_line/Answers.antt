@@ -2,7 +2,7 @@ use Rattle.std.proofs.Common.{sym, refl, ap, ◌∙◌, rules}
 use Rattle.std.proofs.lemmas.List.{take_rest}
 use Rattle.std.proofs.lemmas.Bool.{eqb-true, eqb-false}
 use Rattle.text.specs.Readings.{fault}
-use Rattle.text.proofs.Steps.{line_read, none_left, not-ended}
+use Rattle.text.proofs.Steps.{line_read, none_left, not_ended}
 use Rattle.text.proofs.reader.Reader.next_line.Goals as goal
 
 pub returns-in-Some : goal.returns-in-Some
@@ -28,6 +28,6 @@ returns-in-None-2 c =
     let s = c.args.self.now.text.now in
     let at = c.args.self.now.at in
     record {
-      reads = λ front next. not-ended s _ at c.args.self.now.line (take_rest s at) c.in-None-2.ensures.lines (eqb-false _ _ (sym c.if-is-empty.ensures)) _;
+      reads = λ front next. not_ended s _ at c.args.self.now.line (take_rest s at) c.in-None-2.ensures.lines (eqb-false _ _ (sym c.if-is-empty.ensures)) _;
       advanced = search rules;
     }
