@@ -1,4 +1,6 @@
 //! Scripts and listings: bytes to calls, outcomes to text.
+#![tactic(auto)]
+
 pub mod faults;
 mod letters;
 mod limits;

@@ -1,5 +1,5 @@
 use Rattle.std.proofs.Common.{codes, decimal, rules}
-use lib.Utf8.{encode}
+use Rattle.std.proofs.Math.Utf8.{encode}
 use Rattle.text.proofs.Pieces.{five_parts}
 use Rattle.text.proofs.listing.fill_line.Goals as goal
 

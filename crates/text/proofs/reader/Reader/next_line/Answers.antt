@@ -19,7 +19,7 @@ returns-in-None c =
     let s = c.args.self.now.text.now in
     let at = c.args.self.now.at in
     record {
-      reads = λ front next. none_left s _ at c.args.self.now.line (take_rest s at) (eqb-true _ _ (sym c.if-is-empty.ensures)) _ refl ∙ ap fault (sym c.fault.ensures);
+      reads = λ front next. none_left s _ at c.args.self.now.line (take_rest s at) (eqb-true _ _ (sym c.if-is_empty.ensures)) _ refl ∙ ap fault (sym c.fault.ensures);
       advanced = search rules;
     }
 
@@ -28,6 +28,6 @@ returns-in-None-2 c =
     let s = c.args.self.now.text.now in
     let at = c.args.self.now.at in
     record {
-      reads = λ front next. not_ended s _ at c.args.self.now.line (take_rest s at) c.in-None-2.ensures.lines (eqb-false _ _ (sym c.if-is-empty.ensures)) _;
+      reads = λ front next. not_ended s _ at c.args.self.now.line (take_rest s at) c.in-None-2.ensures.lines (eqb-false _ _ (sym c.if-is_empty.ensures)) _;
       advanced = search rules;
     }

@@ -8,22 +8,22 @@ use Rattle.std.proofs.lemmas.Bool.Decides.{Decides-eqb}
 
 pub returns-in-Some : goal.returns-in-Some
 returns-in-Some c =
-    let x = c.next-line.new.self in
+    let x = c.next_line.new.self in
     let front = c.args.front.now in
-    let line = c.in-ok-line.line.now in
+    let line = c.in_ok-line.line.now in
     let value = stripped line front (Some c.in-Some.value) (strip_prefix_is Decides-eqb line front (Some c.in-Some.value) c.in-Some.ensures.cases) in
     record {
-      reads = λ next. c.in-ok-line.ensures.reads front next ∙ ap (λ (o : Option (List ℕ)). keyed (to_read x) x.line next o) value;
+      reads = λ next. c.in_ok-line.ensures.reads front next ∙ ap (λ (o : Option (List ℕ)). keyed (to_read x) x.line next o) value;
       advanced = search rules;
     }
 
 pub returns-in-None : goal.returns-in-None
 returns-in-None c =
-    let x = c.next-line.new.self in
+    let x = c.next_line.new.self in
     let front = c.args.front.now in
-    let line = c.in-ok-line.line.now in
+    let line = c.in_ok-line.line.now in
     let value = stripped line front None (strip_prefix_is Decides-eqb line front None c.in-None.ensures.cases) in
     record {
-      reads = λ next. c.in-ok-line.ensures.reads front next ∙ ap (λ (o : Option (List ℕ)). keyed (to_read x) x.line next o) value ∙ ap fault (sym c.fault.ensures);
+      reads = λ next. c.in_ok-line.ensures.reads front next ∙ ap (λ (o : Option (List ℕ)). keyed (to_read x) x.line next o) value ∙ ap fault (sym c.fault.ensures);
       advanced = search rules;
     }
