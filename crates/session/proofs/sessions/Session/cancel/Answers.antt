@@ -13,8 +13,8 @@ returns g c =
     let l = s.book.ledger in
     let rules = rules_by (g.P.Priority.ahead s.book.priority) (g.R.PriceRule.price s.book.rule) g.R.PriceRule.mark in
     let call = cancel_call c.args.subscriber c.args.number in
-    let value = c.as-mut-slice.ensures.value in
-    let back = lent_back c.cancel.new.table s.table.items s.table.len (c.cancel.auto.table ∙ c.as-mut-slice.ensures.len) in
+    let value = c.as_mut_slice.ensures.value in
+    let back = lent_back c.cancel.new.table s.table.items s.table.len (c.cancel.auto.table ∙ c.as_mut_slice.ensures.len) in
     let book = c.cancel.ensures.book ∙ ap (λ (t : List Intent). ledger_of (after rules (memory l t []) call)) value in
     let table = back ∙ c.cancel.ensures.table ∙ ap (λ (t : List Intent). (after rules (memory l t []) call).table) value in
     record {

@@ -12,12 +12,12 @@ returns g c =
     let s = c.args.self.now in
     let rules = rules_by (g.P.Priority.ahead s.book.priority) (g.R.PriceRule.price s.book.rule) g.R.PriceRule.mark in
     let x = c.args.terms.now in
-    let table = c.as-mut-slice.result.now in
-    let page = c.as-mut-slice-2.result.now in
+    let table = c.as_mut_slice.result.now in
+    let page = c.as_mut_slice-2.result.now in
     let same : memory s.book.ledger table page ≡ memory s.book.ledger (vec_items s.table) (vec_items s.page) =
-    lent s.book.ledger table (vec_items s.table) page (vec_items s.page) c.as-mut-slice.ensures.value c.as-mut-slice-2.ensures.value in
-    let back-table = lent_back c.enter.new.table s.table.items s.table.len (c.enter.auto.table ∙ c.as-mut-slice.ensures.len) in
-    let back-page = lent_back c.enter.new.page s.page.items s.page.len (c.enter.auto.page ∙ c.as-mut-slice-2.ensures.len) in
+    lent s.book.ledger table (vec_items s.table) page (vec_items s.page) c.as_mut_slice.ensures.value c.as_mut_slice-2.ensures.value in
+    let back-table = lent_back c.enter.new.table s.table.items s.table.len (c.enter.auto.table ∙ c.as_mut_slice.ensures.len) in
+    let back-page = lent_back c.enter.new.page s.page.items s.page.len (c.enter.auto.page ∙ c.as_mut_slice-2.ensures.len) in
     record {
       answer = c.enter.ensures.answer ∙ ap (λ (m : Memory). enter_answer rules m x) same;
       memory = joined _ _ _ (after rules (memory s.book.ledger table page) (enter_call x)) c.enter.ensures.book (back-table ∙ c.enter.ensures.table) (back-page ∙ c.enter.ensures.page)

@@ -20,6 +20,6 @@ returns g c =
     c.play-ended.result
     c.new-listing.ensures.bytes
     c.play-ended.ensures.played
-    c.in-ok-close.ensures
+    c.in_ok-close.ensures
     in
     record { listing = f.printed; memory = f.stands; priority = c.play-ended.ensures.priority; rule = c.play-ended.ensures.rule }
