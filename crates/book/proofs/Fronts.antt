@@ -1,5 +1,5 @@
 -- The first n of a longer table.
-use Rattle.std.proofs.Common.{◌≡◌, ℕ, ◌+◌, ◌-◌, ◌≤◌, List, ◌++◌, length, take, drop, replicate, sym, ap, ◌∙◌, subst, arith}
+use Rattle.std.proofs.Common.{◌≡◌, ℕ, ◌-◌, ◌≤◌, List, ◌++◌, length, take, drop, replicate, sym, ap, ◌∙◌, subst, arith}
 use Rattle.std.proofs.lemmas.List.{length-take, length-map, get_or-take, take_at, append_assoc}
 use Rattle.law.specs.Lists.{keep}
 use Rattle.rules.specs.declared.intents.Intent.{Intent}

@@ -10,6 +10,6 @@ returns c =
     let n = c.args.count in
     let z : n - 0 ≡ n = omega arith in
     record {
-      count = c.close-up.ensures.count ∙ ap (λ (k : ℕ). length (keep live (take k xs))) z;
-      table = closed_take xs (n - 0) n c.close-up.result z c.requires (ap (λ (k : ℕ). drop k xs) z) c.close-up.ensures.table;
+      count = c.close_up.ensures.count ∙ ap (λ (k : ℕ). length (keep live (take k xs))) z;
+      table = closed_take xs (n - 0) n c.close_up.result z c.requires (ap (λ (k : ℕ). drop k xs) z) c.close_up.ensures.table;
     }
