@@ -1,6 +1,5 @@
 pub mod Queueing
 pub mod Turning
-pub mod Fronts
 pub mod Matching
 pub mod Calling
 pub mod Ordering

@@ -1,5 +1,7 @@
 //! The subject's records (securities and quotes, intents, orders, slips, refusals) and its rules: who may
 //! trade with whom, at what price, and who goes first.
+#![tactic(auto)]
+
 pub mod eligibility;
 pub mod incoming;
 pub mod intents;

@@ -5,7 +5,7 @@ use Rattle.book.proofs.turns.hand_out.Goals as goal
 
 pub bounds-page-from : goal.bounds-page-from
 bounds-page-from g c =
-    omega (arith, underway_room c.loop-left.invariant (g.met.P.Priority.total c.args.priority.now c.args.incoming.now.subscriber) c.in-Some.i c.loop-left-test.true c.in-Some.ensures c.min_volume.result c.min_volume.ensures, c.requires.room)
+    omega (arith, underway_room c.loop-left.invariant (g.met.P.Priority.total c.args.priority.now c.args.incoming.now.subscriber) c.in-Some.i c.loop-left-test.true c.in-Some.ensures c.min-volume.result c.min-volume.ensures, c.requires.room)
 
 pub loop-left-smaller : goal.loop-left-smaller
 loop-left-smaller g c =
@@ -13,10 +13,10 @@ loop-left-smaller g c =
 
 pub loop-left-preserved : goal.loop-left-preserved
 loop-left-preserved g c =
-    rw c.active-number-active.ensures (underway_more c.loop-left.invariant (g.met.P.Priority.total c.args.priority.now c.args.incoming.now.subscriber) c.in-Some.i c.loop-left-test.true c.in-Some.ensures c.min_volume.result c.min_volume.ensures)
+    rw c.active_number-active.ensures (underway_more c.loop-left.invariant (g.met.P.Priority.total c.args.priority.now c.args.incoming.now.subscriber) c.in-Some.i c.loop-left-test.true c.in-Some.ensures c.min-volume.result c.min-volume.ensures)
 
 pub returns-after-loop-left : goal.returns-after-loop-left
 returns-after-loop-left g c = underway_spent c.loop-left.invariant c.loop-left-test.false
 
-pub returns-in-default : goal.returns-in-default
-returns-in-default g c = underway_none c.loop-left.invariant c.in-default.ensures
+pub returns-in_default : goal.returns-in_default
+returns-in_default g c = underway_none c.loop-left.invariant c.in_default.ensures

@@ -12,7 +12,7 @@ pub returns-then-intents-place : goal.returns-then-intents-place
 returns-then-intents-place c =
     let ps = c.args.intents.now in
     let n = c.args.number in
-    let is = c.position-of-place.ensures in
+    let is = c.position_of-place.ensures in
     let own : (at ps (position n ps)).subscriber ≡ c.args.subscriber = ap (λ (k : ℕ). (at ps k).subscriber) (sym is) ∙ c.if-intents-place.true in
     let here : position n ps < length ps = omega (arith, is, c.if-place-intents.true) in
     record { within = omega arith; answer = ap Ok is ∙ sym (cond-true (is_of c.args.subscriber (find n ps)) (Ok (position n ps)) (Err NotResting) (ap (is_of c.args.subscriber) (found_here n ps here) ∙ eq-eqb _ _ own)) }
@@ -21,7 +21,7 @@ pub returns-else-place-intents : goal.returns-else-place-intents
 returns-else-place-intents c =
     let ps = c.args.intents.now in
     let n = c.args.number in
-    let is = c.position-of-place.ensures in
+    let is = c.position_of-place.ensures in
     record {
       within = tt;
       answer = sym (cond-false (is_of c.args.subscriber (find n ps)) (Ok (position n ps)) (Err NotResting) (elim c.else-place-intents.branch [

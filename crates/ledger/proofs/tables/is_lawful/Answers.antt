@@ -5,11 +5,11 @@ use Rattle.law.specs.Memories.{capacity}
 use Rattle.ledger.proofs.Scans.{lawful_parts}
 use Rattle.ledger.proofs.tables.is_lawful.Goals as goal
 
-pub returns-then-are-lawful : goal.returns-then-are-lawful
-returns-then-are-lawful c =
+pub returns-then-are_lawful : goal.returns-then-are_lawful
+returns-then-are_lawful c =
     let table = c.args.table.now in
     let count = c.args.count in
-    c.are-blank.ensures
-    ∙ ap (λ (k : ℕ). every is_blank (take (k - count) (drop count table))) c.capacity-of-capacity.ensures
-    ∙ ap (λ (b : Bool). b && every is_blank (take (capacity table - count) (drop count table))) c.if-are-lawful.ensures
+    c.are_blank.ensures
+    ∙ ap (λ (k : ℕ). every is_blank (take (k - count) (drop count table))) c.capacity_of-capacity.ensures
+    ∙ ap (λ (b : Bool). b && every is_blank (take (capacity table - count) (drop count table))) c.if-are_lawful.ensures
     ∙ sym (lawful_parts count c.args.next table (omega arith))

@@ -10,23 +10,23 @@ use Rattle.book.proofs.Calling.{refused_by}
 use Rattle.book.proofs.Cancelling.{cancel_answered, cancel_after}
 use Rattle.book.proofs.books.Book.cancel.Goals as goal
 
-pub returns-in-err-place : goal.returns-in-err-place
-returns-in-err-place g c =
+pub returns-in_err-place : goal.returns-in_err-place
+returns-in_err-place g c =
     let rules = rules_by (g.P.Priority.ahead c.args.self.now.priority) (g.R.PriceRule.price c.args.self.now.rule) g.R.PriceRule.mark in
     let m = memory c.args.self.now.ledger c.args.table.now [] in
     let n = c.args.number in
-    let p = err_from_is_err_and c.from-residual.result c.from-residual.ensures.1 in
-    let refused = refused_by rules m (cancel_call c.args.subscriber n) (withdrawn (account m) n) (position n (account m).resting) c.from-residual.result p.0 _ p.1 p.2 c.in-err-place.ensures.answer in
+    let p = err_from_is_err_and c.from_residual.result c.from_residual.ensures.1 in
+    let refused = refused_by rules m (cancel_call c.args.subscriber n) (withdrawn (account m) n) (position n (account m).resting) c.from_residual.result p.0 _ p.1 p.2 c.in_err-place.ensures.answer in
     record { answer = refused.answer; book = ap ledger_of refused.stays; table = ap (λ (x : Memory). x.table) refused.stays; priority = refl; rule = refl }
 
 pub returns : goal.returns
 returns g c =
     let rules = rules_by (g.P.Priority.ahead c.args.self.now.priority) (g.R.PriceRule.price c.args.self.now.rule) g.R.PriceRule.mark in
     let m = memory c.args.self.now.ledger c.args.table.now [] in
-    let passed = c.in-ok-place.ensures.answer in
-    let left = cancel_after rules m c.args.subscriber c.args.number c.in-ok-place.place passed c.close-among-self.result c.close-among-self.new.table c.close-among-self.ensures.count c.close-among-self.ensures.table in
+    let passed = c.in_ok-place.ensures.answer in
+    let left = cancel_after rules m c.args.subscriber c.args.number c.in_ok-place.place passed c.close_among-self.result c.close_among-self.new.table c.close_among-self.ensures.count c.close_among-self.ensures.table in
     record {
-      answer = cancel_answered rules m c.args.subscriber c.args.number c.in-ok-place.place passed;
+      answer = cancel_answered rules m c.args.subscriber c.args.number c.in_ok-place.place passed;
       book = ap ledger_of left;
       table = ap (λ (x : Memory). x.table) left;
       priority = refl;

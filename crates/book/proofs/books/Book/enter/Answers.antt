@@ -11,7 +11,6 @@ use Rattle.law.specs.Calls.{entered}
 use Rattle.law.specs.Checks.{enter_checks}
 use Rattle.law.specs.Memories.{Memory, account}
 use Rattle.law.specs.Models.{turn_fills}
-use Rattle.law.specs.Outcomes.{after}
 use Rattle.law.specs.Turns.{LawfulRules}
 use Rattle.ledger.specs.Ledgers.{memory, ledger_of}
 use Rattle.book.specs.InPlace.{rules_by}
@@ -20,74 +19,74 @@ use Rattle.book.proofs.Calling.{Passed, refused_by, turned_by_law}
 use Rattle.book.proofs.Entering.{free, enter_answered, enter_after}
 use Rattle.book.proofs.books.Book.enter.Goals as goal
 
-pub returns-in-err-check-enter : goal.returns-in-err-check-enter
-returns-in-err-check-enter g c =
+pub returns-in_err-check_enter : goal.returns-in_err-check_enter
+returns-in_err-check_enter g c =
     let rules = rules_by (g.P.Priority.ahead c.args.self.now.priority) (g.R.PriceRule.price c.args.self.now.rule) g.R.PriceRule.mark in
     let m = memory c.args.self.now.ledger c.args.table.now c.args.page.now in
     let t = c.args.terms.now in
     let fs = turn_fills rules (account m) (intent_incoming (new_intent m.next t)) in
-    let p = err_from_is_err_and c.from-residual.result c.from-residual.ensures.1 in
-    let refused = refused_by rules m (enter_call t) (entered (account m) t fs) tt c.from-residual.result p.0 _ p.1 p.2 c.in-err-check-enter.ensures in
+    let p = err_from_is_err_and c.from_residual.result c.from_residual.ensures.1 in
+    let refused = refused_by rules m (enter_call t) (entered (account m) t fs) tt c.from_residual.result p.0 _ p.1 p.2 c.in_err-check_enter.ensures in
     record {
       answer = refused.answer;
       book = ap ledger_of refused.stays;
       table = ap (λ (x : Memory). x.table) refused.stays;
       page = ap (λ (x : Memory). x.page) refused.stays;
-      fits = IfOk-from_err c.from-residual.result _ c.from-residual.ensures.0;
+      fits = IfOk-from_err c.from_residual.result _ c.from_residual.ensures.0;
       priority = refl;
       rule = refl;
-      turn = IfOk-from_err c.from-residual.result _ c.from-residual.ensures.0;
+      turn = IfOk-from_err c.from_residual.result _ c.from_residual.ensures.0;
     }
 
-pub match-incoming-turned-requires : goal.match-incoming-turned-requires
-match-incoming-turned-requires g c =
+pub match_incoming-turned-requires : goal.match_incoming-turned-requires
+match_incoming-turned-requires g c =
     let m = memory c.args.self.now.ledger c.args.table.now c.args.page.now in
     let t = c.args.terms.now in
-    let tests = checked_passes (enter_checks m t) tt tt (sym c.in-ok-check-enter.ensures) in
+    let tests = checked_passes (enter_checks m t) tt tt (sym c.in_ok-check_enter.ensures) in
     let incoming = c.incoming.ensures ∙ ap intent_incoming c.intent-intent.ensures in
     let same : m.next ≤ m.next = omega arith in
     record { lawful = tests.0; room = leb-true _ _ tests.1.0; new = subst (λ (i : Incoming). ComesNew i.number m.next) (sym incoming) same }
 
-pub overflow-add-self : goal.overflow-add-self
-overflow-add-self g c =
+pub overflow_add-self : goal.overflow_add-self
+overflow_add-self g c =
     let m = memory c.args.self.now.ledger c.args.table.now c.args.page.now in
     let t = c.args.terms.now in
-    let tests = checked_passes (enter_checks m t) tt tt (sym c.in-ok-check-enter.ensures) in
+    let tests = checked_passes (enter_checks m t) tt tt (sym c.in_ok-check_enter.ensures) in
     let below = leb-true m.next 999999999 tests.1.1.1.1.1.1.1.1.0 in
     omega arith
 
-pub rest-behind-self-requires : goal.rest-behind-self-requires
-rest-behind-self-requires g c =
+pub rest_behind-self-requires : goal.rest_behind-self-requires
+rest_behind-self-requires g c =
     let rules = rules_by (g.P.Priority.ahead c.args.self.now.priority) (g.R.PriceRule.price c.args.self.now.rule) g.R.PriceRule.mark in
     let m = memory c.args.self.now.ledger c.args.table.now c.args.page.now in
-    let m' = memory c.match-incoming-turned.new.self.ledger c.match-incoming-turned.new.table c.match-incoming-turned.new.page in
+    let m' = memory c.match_incoming-turned.new.self.ledger c.match_incoming-turned.new.table c.match_incoming-turned.new.page in
     let t = c.args.terms.now in
-    let r = c.match-incoming-turned.result in
+    let r = c.match_incoming-turned.result in
     let incoming = c.incoming.ensures ∙ ap intent_incoming c.intent-intent.ensures in
-    let matched : Matched rules (intent_incoming (new_intent m.next t)) m m' r = subst (λ (i : Incoming). Matched rules i m m' r) incoming c.match-incoming-turned.ensures.matched in
-    omega (arith, ap (λ (x : Memory). x.count) matched.after, free rules m t (sym c.in-ok-check-enter.ensures), c.match-incoming-turned.auto.table)
+    let matched : Matched rules (intent_incoming (new_intent m.next t)) m m' r = subst (λ (i : Incoming). Matched rules i m m' r) incoming c.match_incoming-turned.ensures.matched in
+    omega (arith, ap (λ (x : Memory). x.count) matched.after, free rules m t (sym c.in_ok-check_enter.ensures), c.match_incoming-turned.auto.table)
 
 pub returns : goal.returns
 returns g c =
     let rules = rules_by (g.P.Priority.ahead c.args.self.now.priority) (g.R.PriceRule.price c.args.self.now.rule) g.R.PriceRule.mark in
     let lawful : LawfulRules rules = record { total = g.met.P.Priority.total c.args.self.now.priority; transitive = g.met.P.Priority.transitive c.args.self.now.priority; between = g.met.R.PriceRule.between c.args.self.now.rule } in
     let m = memory c.args.self.now.ledger c.args.table.now c.args.page.now in
-    let m' = memory c.match-incoming-turned.new.self.ledger c.match-incoming-turned.new.table c.match-incoming-turned.new.page in
+    let m' = memory c.match_incoming-turned.new.self.ledger c.match_incoming-turned.new.table c.match_incoming-turned.new.page in
     let t = c.args.terms.now in
     let new = new_intent m.next t in
-    let r = c.match-incoming-turned.result in
-    let passed : Passed (enter_checks m t) = sym c.in-ok-check-enter.ensures in
+    let r = c.match_incoming-turned.result in
+    let passed : Passed (enter_checks m t) = sym c.in_ok-check_enter.ensures in
     let incoming = c.incoming.ensures ∙ ap intent_incoming c.intent-intent.ensures in
-    let matched : Matched rules (intent_incoming new) m m' r = subst (λ (i : Incoming). Matched rules i m m' r) incoming c.match-incoming-turned.ensures.matched in
-    let table = c.rest-behind-self.ensures.table ∙ ap (λ (x : Intent). cond (ltb 0 r.left) (set m'.table m'.count (with_left x r.left)) m'.table) c.intent-intent.ensures in
-    let left = enter_after rules m t passed m' r matched c.rest-behind-self.result c.rest-behind-self.new.table c.rest-behind-self.ensures.count table in
+    let matched : Matched rules (intent_incoming new) m m' r = subst (λ (i : Incoming). Matched rules i m m' r) incoming c.match_incoming-turned.ensures.matched in
+    let table = c.rest_behind-self.ensures.table ∙ ap (λ (x : Intent). cond (ltb 0 r.left) (set m'.table m'.count (with_left x r.left)) m'.table) c.intent-intent.ensures in
+    let left = enter_after rules m t passed m' r matched c.rest_behind-self.result c.rest_behind-self.new.table c.rest_behind-self.ensures.count table in
     record {
       answer = enter_answered rules m t passed m' r matched;
       book = ap ledger_of left;
       table = ap (λ (x : Memory). x.table) left;
       page = ap (λ (x : Memory). x.page) left;
       fits = matched.fits;
-      priority = c.match-incoming-turned.ensures.priority;
-      rule = c.match-incoming-turned.ensures.rule;
+      priority = c.match_incoming-turned.ensures.priority;
+      rule = c.match_incoming-turned.ensures.rule;
       turn = turned_by_law rules lawful m m' (intent_incoming new) r matched (checked_passes (enter_checks m t) tt tt passed).0;
     }

@@ -7,8 +7,8 @@ use Rattle.book.specs.InPlace.{rules_by}
 use Rattle.book.proofs.Matching.{lawful_distinct, matched}
 use Rattle.book.proofs.books.Book.match_incoming.Goals as goal
 
-pub turn-among-turned-requires : goal.turn-among-turned-requires
-turn-among-turned-requires g c =
+pub turn_among-turned-requires : goal.turn_among-turned-requires
+turn_among-turned-requires g c =
     let l = c.args.self.now.ledger in
     let table = c.args.table.now in
     record {
@@ -22,9 +22,9 @@ returns g c =
     let rules = rules_by (g.P.Priority.ahead c.args.self.now.priority) (g.R.PriceRule.price c.args.self.now.rule) g.R.PriceRule.mark in
     let m = memory c.args.self.now.ledger c.args.table.now c.args.page.now in
     record {
-      matched = matched rules m c.args.incoming.now c.requires.lawful c.requires.new c.quote-in-force-quote.result c.quote-in-force-quote.ensures
-          c.turn-among-turned.new.table c.close-among-self.new.table c.turn-among-turned.new.page c.close-among-self.result c.turn-among-turned.result
-          c.requires.room c.turn-among-turned.ensures.handed c.turn-among-turned.ensures.beyond c.close-among-self.ensures.count c.close-among-self.ensures.table;
+      matched = matched rules m c.args.incoming.now c.requires.lawful c.requires.new c.quote_in_force-quote.result c.quote_in_force-quote.ensures
+          c.turn_among-turned.new.table c.close_among-self.new.table c.turn_among-turned.new.page c.close_among-self.result c.turn_among-turned.result
+          c.requires.room c.turn_among-turned.ensures.handed c.turn_among-turned.ensures.beyond c.close_among-self.ensures.count c.close_among-self.ensures.table;
       priority = refl;
       rule = refl;
     }

@@ -18,30 +18,30 @@ use Rattle.book.proofs.Calling.{Passed, refused_by, turned_by_law}
 use Rattle.book.proofs.Ordering.{order_answered, order_after}
 use Rattle.book.proofs.books.Book.order.Goals as goal
 
-pub returns-in-err-check-order : goal.returns-in-err-check-order
-returns-in-err-check-order g c =
+pub returns-in_err-check_order : goal.returns-in_err-check_order
+returns-in_err-check_order g c =
     let rules = rules_by (g.P.Priority.ahead c.args.self.now.priority) (g.R.PriceRule.price c.args.self.now.rule) g.R.PriceRule.mark in
     let m = memory c.args.self.now.ledger c.args.table.now c.args.page.now in
     let o = c.args.order.now in
     let fs = turn_fills rules (account m) (order_incoming o) in
-    let p = err_from_is_err_and c.from-residual.result c.from-residual.ensures.1 in
-    let refused = refused_by rules m (order_call o) (ordered o fs) tt c.from-residual.result p.0 _ p.1 p.2 c.in-err-check-order.ensures in
+    let p = err_from_is_err_and c.from_residual.result c.from_residual.ensures.1 in
+    let refused = refused_by rules m (order_call o) (ordered o fs) tt c.from_residual.result p.0 _ p.1 p.2 c.in_err-check_order.ensures in
     record {
       answer = refused.answer;
       book = ap ledger_of refused.stays;
       table = ap (λ (x : Memory). x.table) refused.stays;
       page = ap (λ (x : Memory). x.page) refused.stays;
-      fits = IfOk-from_err c.from-residual.result _ c.from-residual.ensures.0;
+      fits = IfOk-from_err c.from_residual.result _ c.from_residual.ensures.0;
       priority = refl;
       rule = refl;
-      turn = IfOk-from_err c.from-residual.result _ c.from-residual.ensures.0;
+      turn = IfOk-from_err c.from_residual.result _ c.from_residual.ensures.0;
     }
 
-pub match-incoming-turned-requires : goal.match-incoming-turned-requires
-match-incoming-turned-requires g c =
+pub match_incoming-turned-requires : goal.match_incoming-turned-requires
+match_incoming-turned-requires g c =
     let m = memory c.args.self.now.ledger c.args.table.now c.args.page.now in
     let o = c.args.order.now in
-    let tests = checked_passes (order_checks m o) tt tt (sym c.in-ok-check-order.ensures) in
+    let tests = checked_passes (order_checks m o) tt tt (sym c.in_ok-check_order.ensures) in
     record { lawful = tests.0; room = leb-true _ _ tests.1.0; new = subst (λ (i : Incoming). ComesNew i.number m.next) (sym c.incoming.ensures) tt }
 
 pub returns : goal.returns
@@ -49,11 +49,11 @@ returns g c =
     let rules = rules_by (g.P.Priority.ahead c.args.self.now.priority) (g.R.PriceRule.price c.args.self.now.rule) g.R.PriceRule.mark in
     let lawful : LawfulRules rules = record { total = g.met.P.Priority.total c.args.self.now.priority; transitive = g.met.P.Priority.transitive c.args.self.now.priority; between = g.met.R.PriceRule.between c.args.self.now.rule } in
     let m = memory c.args.self.now.ledger c.args.table.now c.args.page.now in
-    let m' = memory c.match-incoming-turned.new.self.ledger c.match-incoming-turned.new.table c.match-incoming-turned.new.page in
+    let m' = memory c.match_incoming-turned.new.self.ledger c.match_incoming-turned.new.table c.match_incoming-turned.new.page in
     let o = c.args.order.now in
-    let r = c.match-incoming-turned.result in
-    let passed : Passed (order_checks m o) = sym c.in-ok-check-order.ensures in
-    let matched : Matched rules (order_incoming o) m m' r = subst (λ (i : Incoming). Matched rules i m m' r) c.incoming.ensures c.match-incoming-turned.ensures.matched in
+    let r = c.match_incoming-turned.result in
+    let passed : Passed (order_checks m o) = sym c.in_ok-check_order.ensures in
+    let matched : Matched rules (order_incoming o) m m' r = subst (λ (i : Incoming). Matched rules i m m' r) c.incoming.ensures c.match_incoming-turned.ensures.matched in
     let left : m' ≡ after rules m (order_call o) = order_after rules m m' o r passed matched in
     record {
       answer = order_answered rules m m' o r passed matched;
@@ -61,7 +61,7 @@ returns g c =
       table = ap (λ (x : Memory). x.table) left;
       page = ap (λ (x : Memory). x.page) left;
       fits = matched.fits;
-      priority = c.match-incoming-turned.ensures.priority;
-      rule = c.match-incoming-turned.ensures.rule;
+      priority = c.match_incoming-turned.ensures.priority;
+      rule = c.match_incoming-turned.ensures.rule;
       turn = turned_by_law rules lawful m m' (order_incoming o) r matched (checked_passes (order_checks m o) tt tt passed).0;
     }
