@@ -6,7 +6,7 @@ use Rattle.law.specs.declared.calls.Call.{Call}
 use Rattle.law.specs.Calls.{answer_of}
 use Rattle.law.specs.Checks.{checked, checks}
 use Rattle.law.specs.Memories.{Memory, account}
-use Rattle.law.specs.Outcomes.{call_fills, outcome, after}
+use Rattle.law.specs.Outcomes.{call_fills, outcome}
 use Rattle.law.specs.Turns.{Rules}
 use Rattle.law.proofs.Checked.{checked_ok, checked_err}
 use Rattle.law.proofs.Outcomes.{outcome_is}
@@ -26,7 +26,3 @@ module _ {A : Type 0} (rules : Rules) (m : Memory) (call made : Call) (is : call
   refused r y e came same h =
       came ∙ ap Err same ∙ sym (checked_err (checks m made) x (answer_of (account m) made (call_fills rules (account m) made)) e (sym h))
       ∙ sym (outcome_is rules m made) ∙ ap (outcome rules m) (sym is)
-
--- and so does what it leaves behind
-pub left_by : (rules : Rules) (m m' : Memory) (call made : Call) → call ≡ made → m' ≡ after rules m made → m' ≡ after rules m call
-left_by rules m m' call made is h = h ∙ ap (after rules m) (sym is)

@@ -1,7 +1,6 @@
 -- A book's call on memory that a session lends it, as a call on the session.
-use Rattle.std.proofs.Common.{◌≡◌, ℕ, ◌-◌, min, Bool, true, false, cond, List, [], ◌++◌, length, take, drop, replicate, is_ok, sym, ap, ◌∙◌, ⊎_elim, arith}
-use Rattle.std.proofs.lemmas.List.{take_at, take_all, length-replicate, drop-replicate, replicate-append-replicate}
-use Rattle.std.proofs.lemmas.Bool.{cases_lt}
+use Rattle.std.proofs.Common.{◌≡◌, ℕ, ◌-◌, Bool, true, false, cond, List, [], ◌++◌, length, take, drop, replicate, is_ok, ap, ◌∙◌, arith}
+use Rattle.std.proofs.lemmas.List.{take_at, length-replicate, drop-replicate, replicate-append-replicate}
 use Rattle.rules.specs.declared.intents.Intent.{Intent}
 use Rattle.rules.specs.declared.slips.Slip.{Slip}
 use Rattle.rules.specs.Blanks.{blank_intent}
@@ -17,19 +16,9 @@ use Rattle.ledger.specs.Ledgers.{memory, ledger_of, with_listed}
 pub lent_back : {A : Type 0} (new items : List A) (len : ℕ) → length new ≡ len → take len (new ++ drop (length new) items) ≡ new
 lent_back new items len e = take_at new (drop (length new) items) len e
 
--- as many of the first as there are
-pub take_least : {A : Type 0} (xs : List A) (n k : ℕ) → k ≡ min n (length xs) → take (k - 0) xs ≡ take n xs
-take_least xs n k e =
-    let z : k - 0 ≡ k = omega arith in
-    ap (λ (j : ℕ). take j xs) (z ∙ e) ∙ ⊎_elim (λ l. let s : min n (length xs) ≡ n = omega arith in ap (λ (j : ℕ). take j xs) s) (λ l. take_all (min n (length xs)) xs (omega arith) ∙ sym (take_all n xs l)) (cases_lt n (length xs))
-
 -- a memory is its parts
 pub joined : (l : Ledger) (table : List Intent) (page : List Slip) (x : Memory) → l ≡ ledger_of x → table ≡ x.table → page ≡ x.page → memory l table page ≡ x
 joined l table page x a b c = λ j. memory (a j) (b j) (c j)
-
--- slices of a session's memory are that memory
-pub lent : (l : Ledger) (table table' : List Intent) (page page' : List Slip) → table ≡ table' → page ≡ page' → memory l table page ≡ memory l table' page'
-lent l table table' page page' a b = λ j. memory l (a j) (b j)
 
 -- a new book's blanks on a new table change nothing
 pub blank_again : (places : ℕ) → laid_out [] (replicate places blank_intent) ≡ replicate places blank_intent

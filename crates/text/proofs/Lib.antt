@@ -2,5 +2,4 @@ pub mod Cuts
 pub mod Fronts
 pub mod Numerals
 pub mod Pieces
-pub mod Slips
 pub mod Steps
