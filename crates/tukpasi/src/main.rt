@@ -1,4 +1,6 @@
 //! Runs a script from standard input and prints its listing.
+#![tactic(auto)]
+
 use anyhow::anyhow;
 use session::runs::run_script;
 use std::env;
