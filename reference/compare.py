@@ -1,21 +1,17 @@
-"""Compares a program with the second program: on the kept scripts, on generated scripts and in its arguments.
-
-The second program is checked by itself first.
-"""
+"""Compares a program with the second program: on the kept scripts, on generated scripts and in its arguments."""
 
 import argparse
 import os
 import subprocess
 import sys
 import tempfile
-from collections.abc import Iterator
+from collections.abc import Callable, Iterator
+from dataclasses import dataclass
 from functools import partial
 from itertools import zip_longest
 from pathlib import Path
 
-from checks import Check, Difference, conclude, run_checks
 from generate import add_options, scripts
-from selfcheck import self_checks
 from tukpasi import listing_of
 
 KEPT_SCRIPTS = Path(__file__).resolve().parent.parent / "tests" / "scripts"
@@ -27,6 +23,18 @@ ARGUMENTS = (
     ("--help", 0, True, None),
     ("--no-such-argument", 1, False, True),
 )
+
+
+class Difference(Exception):
+    """Why a check failed, in one line."""
+
+
+@dataclass
+class Check:
+    name: str
+    # Raises Difference, or the error of a file or process, if the check fails.
+    run: Callable[[], None]
+    script: bytes | None = None
 
 
 def run(program: str, arguments: list[str], given: bytes) -> subprocess.CompletedProcess:
@@ -82,8 +90,7 @@ def check_argument(program: str, argument: str, status: int, output: bool | None
     need_output("standard error", done.stderr, error)
 
 
-def all_checks(program: str, seed: int, count: int) -> Iterator[Check]:
-    yield from self_checks()
+def checks(program: str, seed: int, count: int) -> Iterator[Check]:
     for path in sorted(path for path in KEPT_SCRIPTS.iterdir() if path.suffix == ".script"):
         script = path.read_bytes()
         yield Check(path.stem, partial(check_kept, program, script, path.with_suffix(".listing")), script)
@@ -91,6 +98,14 @@ def all_checks(program: str, seed: int, count: int) -> Iterator[Check]:
         yield Check(name, partial(check_generated, program, script), script)
     for row in ARGUMENTS:
         yield Check(row[0], partial(check_argument, program, *row))
+
+
+def failure(check: Check) -> Exception | None:
+    try:
+        check.run()
+    except (Difference, OSError, subprocess.TimeoutExpired) as why:
+        return why
+    return None
 
 
 def keep(failed: list[Check]) -> None:
@@ -107,9 +122,17 @@ def main() -> int:
     parser.add_argument("program", metavar="PROGRAM", type=os.path.abspath, help="the program to compare")
     add_options(parser)
     options = parser.parse_args()
-    passed, failed = run_checks(all_checks(options.program, options.seed, options.count))
+    passed, failed = 0, []
+    for check in checks(options.program, options.seed, options.count):
+        why = failure(check)
+        if why is None:
+            passed += 1
+        else:
+            failed.append(check)
+            print(f"{check.name}: {why}")
     keep(failed)
-    return conclude(passed, failed)
+    print(f"{passed} passed, {len(failed)} failed")
+    return int(bool(failed) or passed == 0)
 
 
 if __name__ == "__main__":

@@ -2,39 +2,20 @@
 
 from collections.abc import Iterable
 
-from outcomes import Accepted, Answer, Cancelled, Entered, Listed, Ordered, Refusal
-from records import Fill
+from book import Accepted, Refusal
 from script import Fault
 
 Outcome = Accepted | Refusal | Fault
-# A key and what stands behind its `=`.
-Line = tuple[str, object]
 
 
-def lines(outcome: Outcome) -> list[Line]:
+def lines(outcome: Outcome) -> list[tuple[str, object]]:
     match outcome:
         case Accepted(name, answer):
-            return [("ok", name), *answer_lines(answer)]
-        case Refusal(reason):
-            return [("refused", reason.value)]
-        case Fault(cause, line):
-            return [("fault", cause.value), ("line", line)]
-
-
-def answer_lines(answer: Answer) -> list[Line]:
-    match answer:
-        case Listed():
-            return []
-        case Entered(number, rests, slips):
-            return [("num", number), ("rest", rests), *map(slip_line, slips)]
-        case Cancelled(withdrawn):
-            return [("withdrawn", withdrawn)]
-        case Ordered(residual, slips):
-            return [("residual", residual), *map(slip_line, slips)]
-
-
-def slip_line(fill: Fill) -> Line:
-    return ("fill", f"{fill.active},{fill.passive},{fill.volume},{fill.price},{fill.mark}")
+            return [("ok", name), *answer]
+        case Refusal(number):
+            return [("refused", number)]
+        case Fault(number, line):
+            return [("fault", number), ("line", line)]
 
 
 def listing(outcomes: Iterable[Outcome]) -> bytes:

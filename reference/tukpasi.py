@@ -6,11 +6,7 @@ from collections.abc import Iterator
 
 from book import Book
 from listing import Outcome, listing
-from prices import StepRule
-from priorities import RULE_4_108
 from script import LONGEST_SCRIPT, Fault, calls
-
-PLACES = 256
 
 USAGE = """\
 usage: tukpasi.py < SCRIPT
@@ -19,11 +15,8 @@ usage: tukpasi.py < SCRIPT
 Reads a script from standard input and prints its listing to standard output."""
 
 
-def open_book() -> Book:
-    return Book(price_rule=StepRule(1), priority=RULE_4_108, capacity=PLACES, page_length=PLACES)
-
-
-def outcomes(book: Book, script: bytes) -> Iterator[Outcome]:
+def outcomes(script: bytes) -> Iterator[Outcome]:
+    book = Book()
     try:
         for call in calls(script):
             yield book.run(call.name, call.values)
@@ -31,12 +24,8 @@ def outcomes(book: Book, script: bytes) -> Iterator[Outcome]:
         yield fault
 
 
-def listing_on(book: Book, script: bytes) -> bytes:
-    return listing(outcomes(book, script))
-
-
 def listing_of(script: bytes) -> bytes:
-    return listing_on(open_book(), script)
+    return listing(outcomes(script))
 
 
 def read_script() -> bytes:

@@ -1,2 +1,3 @@
+pub mod ListCall
 pub mod InPlace
 pub mod Matches

@@ -1,5 +1,7 @@
 //! A price rule and a tier that are not the engine's own, each in one file, as somebody else would add them; and what holds
 //! of them, and of every other, by the laws of the traits.
+#![tactic(auto)]
+
 pub mod dealer_tier;
 pub mod laws;
 pub mod offer_rule;

@@ -1,5 +1,5 @@
 -- THE TURN IS RIGHT: the model's fills of a turn are those that the law asks for.
--- `turn-right` is the end; before it, that the served queue is an allotment and the most for each leading group.
+-- `turn_right` is the end; before it, that the served queue is an allotment and the most for each leading group.
 use Rattle.std.proofs.Common.{◌≡◌, ℕ, ◌≤◌, min, Bool, T, List, [], Some, None, Option, sym, refl, ◌∙◌, subst₂, arith}
 use Rattle.rules.specs.declared.quotes.Quote.{Quote}
 use Rattle.rules.specs.declared.intents.Standing.{Standing}

@@ -1,5 +1,5 @@
 -- THE TURN IS THE ONLY ONE: the law of a turn leaves no choice of fills.
--- `turn-unique` compares two turns, `turn-only` says that a turn's fills are the model's.
+-- `turn_unique` compares two turns, `turn_only` says that a turn's fills are the model's.
 use Rattle.std.proofs.Common.{◌≡◌, ℕ, ◌<◌, Bool, cond, eqb, ltb, List, [], ◌∷◌, Some, None, Option, sym, refl, ap, ◌∙◌, ap₂, ⊎_elim, arith}
 use Rattle.std.proofs.lemmas.Bool.{cond-true, cond-false, cases_eq, eq-eqb, ne_eqb, lt-ltb, le-ltb}
 use Rattle.rules.specs.declared.quotes.Quote.{Quote}

@@ -7,4 +7,3 @@ pub mod Checks
 pub mod Answers
 pub mod Calls
 pub mod Outcomes
-pub mod WorkedExamples

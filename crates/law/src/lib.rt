@@ -4,4 +4,3 @@
 
 pub mod answers;
 pub mod calls;
-pub mod worked_examples;

@@ -8,3 +8,4 @@ pub mod Quotes
 pub mod Ranges
 pub mod Refusals
 pub mod Securities
+pub mod WorkedExamples

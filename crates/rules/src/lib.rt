@@ -1,7 +1,8 @@
-//! The subject's records (securities and quotes, intents, orders, slips, refusals) and its rules: who may
+//! The subject's records (securities and quotes, intents, orders, slips, calls, answers, refusals) and its rules: who may
 //! trade with whom, at what price, and who goes first.
 #![tactic(auto)]
 
+pub mod calls;
 pub mod eligibility;
 pub mod incoming;
 pub mod intents;
@@ -14,3 +15,4 @@ pub mod ranges;
 pub mod refusals;
 pub mod securities;
 pub mod slips;
+pub mod worked_examples;

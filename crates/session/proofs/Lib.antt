@@ -1,4 +1,2 @@
-pub mod Lending
-pub mod Answering
 pub mod Closings
 pub mod Underway

@@ -1,4 +1,4 @@
 pub mod Faults
-pub mod Memories
+pub mod Calls
 pub mod Runs
 pub mod Plays

@@ -1,5 +1,4 @@
 pub mod Cuts
 pub mod Fronts
 pub mod Numerals
-pub mod Pieces
 pub mod Steps

@@ -1,6 +1,6 @@
 -- A number read digit by digit.
-use Rattle.std.proofs.Common.{◌≡◌, ℕ, ◌+◌, ◌-◌, ◌*◌, ◌<◌, ◌≤◌, Bool, true, false, cond, List, [], ◌∷◌, length, get_or, drop, None, ap, ◌∙◌, arith}
-use Rattle.std.proofs.lemmas.List.{drop_more}
+use Rattle.std.proofs.Common.{◌≡◌, ℕ, ◌+◌, ◌-◌, ◌*◌, ◌<◌, ◌≤◌, Bool, true, false, cond, ◌⊎◌, List, [], ◌∷◌, length, get_or, drop, Some, None, ap, ◌∙◌, arith}
+use Rattle.std.proofs.lemmas.List.{drop_more, drop_all}
 use Rattle.std.proofs.lemmas.Bool.Decides.{nat_tests}
 use Rattle.text.specs.Numbers.{digit, value_on, within}
 
@@ -20,3 +20,11 @@ pub next : (s : List ℕ) (i n : ℕ) → i < length s → 48 ≤ get_or s i 0 �
 next s i n h lo hi =
     let d : digit (get_or s i 0) ≡ true = grind (arith, nat_tests) in
     ap (within n) (drop_more s i 0 h) ∙ within_by n (get_or s i 0) (drop (i + 1) s) true d
+
+pub stops : (s : List ℕ) (i n : ℕ) → i < length s → (get_or s i 0 < 48) ⊎ (57 < get_or s i 0) → within n (drop i s) ≡ None
+stops s i n h e =
+    let d : digit (get_or s i 0) ≡ false = grind (arith, nat_tests) in
+    ap (within n) (drop_more s i 0 h) ∙ within_by n (get_or s i 0) (drop (i + 1) s) false d
+
+pub ends : (s : List ℕ) (i n : ℕ) → length s ≤ i → n ≤ 4294967295 → within n (drop i s) ≡ Some n
+ends s i n h le = ap (within n) (drop_all i s h) ∙ grind (arith, nat_tests)

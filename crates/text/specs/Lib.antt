@@ -3,8 +3,6 @@ pub mod Lines
 pub mod Keys
 pub mod Names
 pub mod Numbers
-pub mod Letters
-pub mod Limits
 pub mod Grammar
 pub mod Readings
 pub mod Progress

@@ -1,6 +1,6 @@
 -- How far a reader has come, and what it has still to read.
 use Rattle.std.specs.Prelude.{◌≡◌, ℕ, ◌-◌, length, drop, Some, None, Ok, Err, Option, Result}
-use Rattle.law.specs.declared.calls.Call.{Call}
+use Rattle.rules.specs.declared.calls.Call.{Call}
 use Rattle.text.specs.declared.faults.ReadFault.{ReadFault}
 use Rattle.text.specs.declared.reader.Reader.{Reader}
 use Rattle.text.specs.Lines.{lines}

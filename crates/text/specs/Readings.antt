@@ -1,6 +1,6 @@
 -- What a script says: its calls, one after another, up to its end or its first fault.
 use Rattle.std.specs.Prelude.{ℕ, ◌+◌, Bool, true, false, cond, List, [], ◌∷◌, length, Some, None, Ok, Err, codes, Option, Result, nat_lt}
-use Rattle.law.specs.declared.calls.Call.{Call}
+use Rattle.rules.specs.declared.calls.Call.{Call}
 use Rattle.text.specs.declared.faults.Cause.{Cause}
 use Rattle.text.specs.declared.faults.Cause.TheVariants.{TooLong, Key, Unfinished}
 use Rattle.text.specs.declared.faults.ReadFault.{ReadFault}

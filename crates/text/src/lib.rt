@@ -2,12 +2,9 @@
 #![tactic(auto)]
 
 pub mod faults;
-mod letters;
-mod limits;
 mod lines;
 pub mod listing;
 mod names;
 pub mod numbers;
 pub mod reader;
 pub mod reading;
-mod words;

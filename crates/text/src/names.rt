@@ -2,16 +2,12 @@ ghost use Rattle.std.specs.Prelude.{◌≡◌};
 ghost use Rattle.std.specs.Str.{bytes_eq};
 ghost use Rattle.text.specs.Names.{spelled, named, name_of};
 
-use crate::words::spell;
-use law::calls::Call;
+use rules::calls::Call;
 
 /// What a script calls a call.
 #[derive(Clone, Copy)]
 pub(crate) enum CallName {
     List,
-    Enter,
-    Cancel,
-    Order,
 }
 
 impl CallName {
@@ -21,9 +17,6 @@ impl CallName {
     {
         match call {
             Call::List { .. } => CallName::List,
-            Call::Enter(_) => CallName::Enter,
-            Call::Cancel { .. } => CallName::Cancel,
-            Call::Order(_) => CallName::Order,
         }
     }
 
@@ -33,9 +26,6 @@ impl CallName {
     {
         match self {
             CallName::List => "list",
-            CallName::Enter => "enter",
-            CallName::Cancel => "cancel",
-            CallName::Order => "order",
         }
     }
 
@@ -43,7 +33,7 @@ impl CallName {
     fn spells(self, bytes: &[u8]) -> bool
         ensures { result ≡ bytes_eq bytes.now (spelled self) }
     {
-        spell(bytes, self.text())
+        bytes == self.text().as_bytes()
     }
 
     /// The name that the bytes spell, if they spell one.
@@ -52,15 +42,6 @@ impl CallName {
     {
         if CallName::List.spells(bytes) {
             return Some(CallName::List);
-        }
-        if CallName::Enter.spells(bytes) {
-            return Some(CallName::Enter);
-        }
-        if CallName::Cancel.spells(bytes) {
-            return Some(CallName::Cancel);
-        }
-        if CallName::Order.spells(bytes) {
-            return Some(CallName::Order);
         }
         None
     }

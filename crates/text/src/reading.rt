@@ -1,21 +1,16 @@
-ghost use Rattle.std.specs.Prelude.{◌≡◌, ℕ, ◌<◌, Bool, List, IfOk, codes, Option, OnSome};
-ghost use Rattle.text.specs.Grammar.{Form, done, ask, number_then, limit_then, letter_then, side_then, flag_then};
-ghost use Rattle.text.specs.Grammar.{form_of, list_form, enter_form, cancel_form, order_form};
+ghost use Rattle.std.specs.Prelude.{◌≡◌, ℕ, ◌<◌, List, IfOk, codes, OnSome};
+ghost use Rattle.text.specs.Grammar.{Form, done, ask, number_then, form_of, list_form};
 ghost use Rattle.text.specs.Lines.{lines};
 ghost use Rattle.text.specs.Progress.{to_read, followed_by, Stays, left};
 ghost use Rattle.text.specs.Readings.{start, read, length_check};
 ghost use Rattle.text.specs.Steps.{onward_from, went, lined, Advanced};
 
 use crate::faults::{Cause, ReadFault};
-use crate::letters::{flag_of, letter, side_of};
-use crate::limits::limit;
 use crate::lines::line_end;
 use crate::names::CallName;
 use crate::numbers::number;
 use crate::reader::Reader;
-use law::calls::{Call, Terms};
-use rules::intents::Side;
-use rules::orders::Order;
+use rules::calls::Call;
 
 /// The longest script that is read, in bytes.
 pub const LONGEST: usize = 16_384;
@@ -73,9 +68,6 @@ impl<'a> Reader<'a> {
         let name = self.value(b"call=")?;
         match CallName::read(name) {
             Some(CallName::List) => self.list(),
-            Some(CallName::Enter) => self.enter(),
-            Some(CallName::Cancel) => self.cancel(),
-            Some(CallName::Order) => self.order(),
             None => Err(self.fault(Cause::Key)),
         }
     }
@@ -129,43 +121,10 @@ impl<'a> Reader<'a> {
         ensures advanced { Advanced result self.old self.new }
     {
         let value = self.value(front)?;
-        number(value).ok_or(self.fault(Cause::Value))
-    }
-
-    /// The limit of an order, on the next line, which has to begin with `front`.
-    fn limit(&mut self, front: &[u8]) -> Result<Option<u32>, ReadFault>
-        ensures reads { (next : Option ℕ → Form) → onward_from self.old (ask front.now (limit_then next)) ≡ went result next self.new }
-        ensures advanced { Advanced result self.old self.new }
-    {
-        let value = self.value(front)?;
-        limit(value).ok_or(self.fault(Cause::Value))
-    }
-
-    /// The letter on the next line, which has to begin with `front`.
-    fn letter(&mut self, front: &[u8]) -> Result<char, ReadFault>
-        ensures reads { (next : ℕ → Form) → onward_from self.old (ask front.now (letter_then next)) ≡ went result next self.new }
-        ensures advanced { Advanced result self.old self.new }
-    {
-        let value = self.value(front)?;
-        letter(value).ok_or(self.fault(Cause::Value))
-    }
-
-    /// The side on the next line, which has to begin with `front`.
-    fn side(&mut self, front: &[u8]) -> Result<Side, ReadFault>
-        ensures reads { (next : Side → Form) → onward_from self.old (ask front.now (side_then next)) ≡ went result next self.new }
-        ensures advanced { Advanced result self.old self.new }
-    {
-        let letter = self.letter(front)?;
-        side_of(letter).ok_or(self.fault(Cause::Value))
-    }
-
-    /// The yes or no on the next line, which has to begin with `front`.
-    fn flag(&mut self, front: &[u8]) -> Result<bool, ReadFault>
-        ensures reads { (next : Bool → Form) → onward_from self.old (ask front.now (flag_then next)) ≡ went result next self.new }
-        ensures advanced { Advanced result self.old self.new }
-    {
-        let letter = self.letter(front)?;
-        flag_of(letter).ok_or(self.fault(Cause::Value))
+        match number(value) {
+            Some(n) => Ok(n),
+            None => Err(self.fault(Cause::Value)),
+        }
     }
 
     /// The keys of list.
@@ -175,63 +134,5 @@ impl<'a> Reader<'a> {
     {
         let security = self.number(b"sec=")?;
         Ok(Call::List { security })
-    }
-
-    /// The keys of enter.
-    fn enter(&mut self) -> Result<Call, ReadFault>
-        ensures reads { onward_from self.old enter_form ≡ went result done self.new }
-        ensures advanced { Advanced result self.old self.new }
-    {
-        let security = self.number(b"sec=")?;
-        let subscriber = self.number(b"sub=")?;
-        let group = self.number(b"pag=")?;
-        let side = self.side(b"side=")?;
-        let volume = self.number(b"vol=")?;
-        let limit = self.number(b"limit=")?;
-        let min_spread = self.number(b"spread=")?;
-        let min_volume = self.number(b"minvol=")?;
-        let last_day = self.number(b"last=")?;
-        Ok(Call::Enter(Terms {
-            security,
-            subscriber,
-            group,
-            side,
-            volume,
-            limit,
-            min_spread,
-            min_volume,
-            last_day,
-        }))
-    }
-
-    /// The keys of cancel.
-    fn cancel(&mut self) -> Result<Call, ReadFault>
-        ensures reads { onward_from self.old cancel_form ≡ went result done self.new }
-        ensures advanced { Advanced result self.old self.new }
-    {
-        let subscriber = self.number(b"sub=")?;
-        let number = self.number(b"num=")?;
-        Ok(Call::Cancel { subscriber, number })
-    }
-
-    /// The keys of order.
-    fn order(&mut self) -> Result<Call, ReadFault>
-        ensures reads { onward_from self.old order_form ≡ went result done self.new }
-        ensures advanced { Advanced result self.old self.new }
-    {
-        let security = self.number(b"sec=")?;
-        let subscriber = self.number(b"sub=")?;
-        let side = self.side(b"side=")?;
-        let volume = self.number(b"vol=")?;
-        let limit = self.limit(b"limit=")?;
-        let jitney = self.flag(b"jitney=")?;
-        Ok(Call::Order(Order {
-            security,
-            subscriber,
-            side,
-            volume,
-            limit,
-            jitney,
-        }))
     }
 }

@@ -13,21 +13,11 @@ Usage: tukpasi < SCRIPT
 Runs a script on a new book and prints its listing. A script has one key=value
 to a line, for each call its name and then its keys in their order:
 
-    list    sec
-    enter   sec sub pag side vol limit spread minvol last
-    cancel  sub num
-    order   sec sub side vol limit jitney
+    call=list
+    sec=7
 
-side is B or S, jitney Y or N, the limit of an order a number or market:
-
-    call=cancel
-    sub=7
-    num=1
-
-An accepted call prints ok= and its name, then what it answers (num= and rest=,
-withdrawn= or residual=) and its fills; a refused one prints refused= and the
-number of the refusal. A fault of the script ends the listing with fault= and
-line=.
+An accepted call prints ok= and its name, a refused one refused= and the number
+of the refusal. A fault of the script ends the listing with fault= and line=.
 The status is 0 in all these cases, and 1 if reading, writing or memory fails.
 ";
 

@@ -1,20 +1,15 @@
-use Rattle.std.proofs.Common.{vec_items, string_bytes}
-use Rattle.book.specs.InPlace.{rules_by}
-use Rattle.ledger.specs.Ledgers.{memory}
+use Rattle.std.proofs.Common.{string_bytes}
 use Rattle.text.specs.Readings.{reading}
 use Rattle.session.proofs.Closings.{finished}
 use Rattle.session.proofs.sessions.Session.run.Goals as goal
 
 pub returns : goal.returns
-returns g c =
-    let s = c.args.self in
-    let s' = c.play-ended.new.self in
+returns c =
     let f = finished
-    (rules_by (g.P.Priority.ahead s.book.priority) (g.R.PriceRule.price s.book.rule) g.R.PriceRule.mark)
     (reading c.args.script.now)
-    (memory s.book.ledger (vec_items s.table) (vec_items s.page))
+    c.args.self.book.securities
     (string_bytes c.new-listing.result)
-    (memory s'.book.ledger (vec_items s'.table) (vec_items s'.page))
+    c.play-ended.new.self.book.securities
     (string_bytes c.play-ended.new.listing)
     (string_bytes c.close.new.listing)
     c.play-ended.result
@@ -22,4 +17,4 @@ returns g c =
     c.play-ended.ensures.played
     c.in_ok-close.ensures
     in
-    record { listing = f.printed; memory = f.stands; priority = c.play-ended.ensures.priority; rule = c.play-ended.ensures.rule }
+    record { listing = f.printed; book = f.stands; table = c.play-ended.ensures.table; page = c.play-ended.ensures.page }
