@@ -26,7 +26,7 @@ pub trait PriceRule {
     fn price_of(&self, quote: &Quote, side: Side) -> u64
         ensures { result ≡ price self.now quote.now side };
 
-    /// The rule's letter, `MARK`: a contract can name this answer, but not the constant of a rule that is a parameter.
+    /// The rule's letter, `MARK`, as an answer: contracts name its meaning, `mark`.
     fn mark_of() -> char
         ensures { result ≡ mark };
 

@@ -5,6 +5,7 @@ use anyhow::anyhow;
 use session::runs::run_script;
 use std::env;
 use std::io::Read;
+use std::process::ExitCode;
 use text::reading::LONGEST;
 
 const HELP: &str = "\
@@ -49,10 +50,12 @@ fn run(rt: &HostRuntime) -> anyhow::Result<()> {
     Ok(())
 }
 
-fn main(rt: HostRuntime) -> anyhow::Result<()> {
-    let ended = run(&rt);
-    if let Err(e) = &ended {
-        let _ = eprintln!(rt; "tukpasi: {e}");
+fn main(rt: HostRuntime) -> ExitCode {
+    match run(&rt) {
+        Ok(()) => ExitCode::SUCCESS,
+        Err(e) => {
+            let _ = eprintln!(rt; "tukpasi: {e}");
+            ExitCode::FAILURE
+        }
     }
-    ended
 }
