@@ -1,4 +1,4 @@
-"""Compares a program with the second program: on the kept scripts, on generated scripts and in its arguments."""
+"""Compares a program with the second program: on kept and generated scripts, in its arguments and where writing fails."""
 
 import argparse
 import os
@@ -18,7 +18,7 @@ KEPT_SCRIPTS = Path(__file__).resolve().parent.parent / "tests" / "scripts"
 SECONDS = 20
 SHOWN_BYTES = 60
 
-# Argument, exit status, whether anything stands on standard output and on standard error (None: either way).
+# Argument, exit status, whether anything stands on standard output and a message on standard error (None: either way).
 ARGUMENTS = (
     ("--help", 0, True, None),
     ("--no-such-argument", 1, False, True),
@@ -49,6 +49,12 @@ def need_status(done: subprocess.CompletedProcess, status: int) -> None:
 def need_output(where: str, output: bytes, wanted: bool | None) -> None:
     if wanted is not None and bool(output) != wanted:
         raise Difference(f"{where} is {output[:SHOWN_BYTES]!r}")
+
+
+def need_message(error: bytes) -> None:
+    """One line: a failure is told, and told once."""
+    if error.count(b"\n") != 1 or not error.endswith(b"\n"):
+        raise Difference(f"standard error is {error[:SHOWN_BYTES]!r} instead of one line")
 
 
 def need_same(who: str, printed: bytes, wanted: bytes) -> None:
@@ -87,7 +93,17 @@ def check_argument(program: str, argument: str, status: int, output: bool | None
     done = run(program, [argument], b"")
     need_status(done, status)
     need_output("standard output", done.stdout, output)
-    need_output("standard error", done.stderr, error)
+    if error:
+        need_message(done.stderr)
+    else:
+        need_output("standard error", done.stderr, error)
+
+
+def check_failed_write(program: str) -> None:
+    with open("/dev/full", "wb") as full:
+        done = subprocess.run([program, "--help"], stdin=subprocess.DEVNULL, stdout=full, stderr=subprocess.PIPE, timeout=SECONDS)
+    need_status(done, 1)
+    need_message(done.stderr)
 
 
 def checks(program: str, seed: int, count: int) -> Iterator[Check]:
@@ -98,6 +114,7 @@ def checks(program: str, seed: int, count: int) -> Iterator[Check]:
         yield Check(name, partial(check_generated, program, script), script)
     for row in ARGUMENTS:
         yield Check(row[0], partial(check_argument, program, *row))
+    yield Check("a write that fails", partial(check_failed_write, program))
 
 
 def failure(check: Check) -> Exception | None:
