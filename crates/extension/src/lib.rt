@@ -48,7 +48,7 @@ mod tests {
         assert_eq!(rt; over_step.price_of(&QUOTE, Side::Buy), 2020);
         assert_eq!(rt; over_step.price_of(&QUOTE, Side::Sell), 2002);
         assert_eq!(rt; over_midpoint.price_of(&QUOTE, Side::Sell), 2010);
-        assert_eq!(rt; OfferRule::<StepRule>::mark_of(), 'F');
+        assert_eq!(rt; OfferRule::<StepRule>::MARK, 'F');
         assert!(rt; is_within_quote(&over_step, &QUOTE, Side::Buy));
     }
 

@@ -6,9 +6,6 @@ use rules::intents::Side;
 use rules::prices::PriceRule;
 use rules::quotes::Quote;
 
-// In a generic impl the check does not see through `Self::MARK`, so both the constant and its question take the letter here.
-const LETTER: char = 'F';
-
 /// An incoming buy pays the offer in full; an incoming sell goes by the rule below.
 #[derive(Clone, Copy)]
 pub struct OfferRule<R: PriceRule> {
@@ -16,12 +13,12 @@ pub struct OfferRule<R: PriceRule> {
 }
 
 impl<R: PriceRule> PriceRule for OfferRule<R> {
-    const MARK: char = LETTER;
-
-    ghost price = { λ rule quote side. elim side [ Buy ↦ 2 * quote.offer | Sell ↦ R.PriceRule.price rule.below quote Sell ] };
+    const MARK: char = 'F';
 
     // the letter F
-    ghost mark = { 70 };
+    ghost MARK = { 70 };
+
+    ghost price = { λ rule quote side. elim side [ Buy ↦ 2 * quote.offer | Sell ↦ R.PriceRule.price rule.below quote Sell ] };
 
     ghost between = { Prim.search rules };
 
@@ -30,9 +27,5 @@ impl<R: PriceRule> PriceRule for OfferRule<R> {
             Side::Buy => 2 * u64::from(quote.offer),
             Side::Sell => self.below.price_of(quote, side),
         }
-    }
-
-    fn mark_of() -> char {
-        LETTER
     }
 }

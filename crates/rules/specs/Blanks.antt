@@ -1,4 +1,5 @@
 -- What stands in an empty place of a table, and in a place of a new page.
+use Rattle.rules.specs.Minimums.{no_minimums}
 use Rattle.rules.specs.declared.intents.Intent.{Intent}
 use Rattle.rules.specs.declared.intents.Side.TheVariants.{Buy}
 use Rattle.rules.specs.declared.slips.Slip.{Slip}
@@ -13,8 +14,7 @@ blank_intent = record {
   entered = 0;
   remaining = 0;
   limit = 0;
-  min_spread = 0;
-  min_volume = 0;
+  minimums = no_minimums;
   last_day = 0;
   number = 0;
 }

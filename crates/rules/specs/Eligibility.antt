@@ -36,6 +36,6 @@ eligible q price i p =
     (arrived_before p.number i.number &&
     (within_limit p.side p.limit price &&
     (within_any_limit i.side i.limit price &&
-    (reaches q p.side p.min_spread p.min_volume &&
-    (reaches q i.side i.min_spread i.min_volume &&
+    (reaches q p.side p.minimums &&
+    (reaches q i.side i.minimums &&
     not i.jitney))))))

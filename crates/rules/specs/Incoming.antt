@@ -1,5 +1,6 @@
 -- The party that has its turn, made from an intent or from an order.
 use Rattle.std.specs.Prelude.{false, Some, None}
+use Rattle.rules.specs.Minimums.{no_minimums}
 use Rattle.rules.specs.declared.incoming.Incoming.{Incoming}
 use Rattle.rules.specs.declared.orders.Order.{Order}
 use Rattle.rules.specs.declared.intents.Intent.{Intent}
@@ -13,8 +14,7 @@ intent_incoming p = record {
   side = p.side;
   volume = p.remaining;
   limit = Some p.limit;
-  min_spread = p.min_spread;
-  min_volume = p.min_volume;
+  minimums = p.minimums;
   jitney = false;
 }
 
@@ -26,7 +26,6 @@ order_incoming o = record {
   side = o.side;
   volume = o.volume;
   limit = o.limit;
-  min_spread = 0;
-  min_volume = 0;
+  minimums = no_minimums;
   jitney = o.jitney;
 }

@@ -1,6 +1,7 @@
 -- What an intent's fields may be, and what a priority may read of it.
 use Rattle.std.specs.Prelude.{Bool, true, false, ◌&&◌, ◌==◌}
-use Rattle.rules.specs.Ranges.{within, is_security, is_subscriber, is_group, is_volume, is_price, is_min_spread, is_min_volume, is_day, is_number}
+use Rattle.rules.specs.Minimums.{are_minimums, asks_nothing}
+use Rattle.rules.specs.Ranges.{within, is_security, is_subscriber, is_group, is_volume, is_price, is_day, is_number}
 use Rattle.rules.specs.declared.intents.Intent.{Intent}
 use Rattle.rules.specs.declared.intents.Standing.{Standing}
 use Rattle.rules.specs.declared.intents.Side.{Side}
@@ -15,10 +16,9 @@ in_range p =
     (is_volume p.entered &&
     (within 1 p.entered p.remaining &&
     (is_price p.limit &&
-    (is_min_spread p.min_spread &&
-    (is_min_volume p.min_volume &&
+    (are_minimums p.minimums &&
     (is_day p.last_day &&
-    is_number p.number))))))))
+    is_number p.number)))))))
 
 abbrev pub standing : Intent → Standing
 standing p = record { subscriber = p.subscriber; group = p.group; entered = p.entered; number = p.number }
@@ -37,7 +37,6 @@ is_blank p =
     (p.entered == 0 &&
     (p.remaining == 0 &&
     (p.limit == 0 &&
-    (p.min_spread == 0 &&
-    (p.min_volume == 0 &&
+    (asks_nothing p.minimums &&
     (p.last_day == 0 &&
-    (p.number == 0))))))))))
+    (p.number == 0)))))))))

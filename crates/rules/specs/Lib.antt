@@ -2,6 +2,7 @@ pub mod Blanks
 pub mod Eligibility
 pub mod Incoming
 pub mod Intents
+pub mod Minimums
 pub mod Prices
 pub mod Priorities
 pub mod Quotes

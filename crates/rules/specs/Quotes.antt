@@ -3,6 +3,7 @@ use Rattle.std.specs.Prelude.{ℕ, ◌-◌, Bool, ◌&&◌, nat_le, nat_lt}
 use Rattle.rules.specs.Ranges.{is_price, is_quoted_volume}
 use Rattle.rules.specs.declared.intents.Side.{Side}
 use Rattle.rules.specs.declared.intents.Side.TheVariants.{Buy, Sell}
+use Rattle.rules.specs.declared.minimums.Minimums.{Minimums}
 use Rattle.rules.specs.declared.quotes.Quote.{Quote}
 
 -- prices and volumes in range, the bid below the offer
@@ -22,6 +23,6 @@ abbrev pub volume_on : Quote → Side → ℕ
 volume_on q Buy = q.bid_volume
 volume_on q Sell = q.offer_volume
 
--- the quote is as wide as a minimum spread and, on this side, as deep as a minimum volume
-abbrev pub reaches : Quote → Side → ℕ → ℕ → Bool
-reaches q side min_spread min_volume = nat_le min_spread (spread q) && nat_le min_volume (volume_on q side)
+-- the quote is as wide as the minimum spread and, on this side, as deep as the minimum volume
+abbrev pub reaches : Quote → Side → Minimums → Bool
+reaches q side minimums = nat_le minimums.spread (spread q) && nat_le minimums.volume (volume_on q side)

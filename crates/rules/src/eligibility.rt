@@ -1,17 +1,46 @@
 ghost use Rattle.std.specs.Prelude.{◌≡◌};
-ghost use Rattle.rules.specs.Eligibility.{opposite, arrived_before, within_limit, within_any_limit, eligible};
+ghost use Rattle.rules.specs.Eligibility.{arrived_before, within_limit, within_any_limit, eligible};
 
 use crate::incoming::Incoming;
 use crate::intents::{Intent, Side};
+use crate::prices::PriceRule;
 use crate::quotes::Quote;
 
-/// Whether one is a buyer and the other a seller.
-fn are_opposite(a: Side, b: Side) -> bool
-    ensures { result ≡ opposite a b }
-{
-    match (a, b) {
-        (Side::Buy, Side::Sell) | (Side::Sell, Side::Buy) => true,
-        (Side::Buy, Side::Buy) | (Side::Sell, Side::Sell) => false,
+/// The party that has its turn, with what it is quoted.
+#[derive(Clone, Copy)]
+pub struct Seeker {
+    pub incoming: Incoming,
+    /// The quote in force for the party's security (`Security::quote_in_force`).
+    pub quote: Quote,
+    /// The price rule's price for the quote and the party's side, in half ticks.
+    pub price: u64,
+}
+
+impl Seeker {
+    /// The party with the quote in force, and with the price that the rule has for it.
+    pub fn new<R: PriceRule>(rule: &R, quote: Quote, incoming: Incoming) -> Seeker
+        ensures { result ≡ record { incoming = incoming; quote = quote; price = R.price rule.now quote incoming.side } }
+    {
+        Seeker {
+            incoming,
+            quote,
+            price: rule.price_of(&quote, incoming.side),
+        }
+    }
+
+    /// Whether a resting intent is eligible for the party.
+    pub fn may_meet(&self, intent: &Intent) -> bool
+        ensures { result ≡ eligible self.now.quote self.now.price self.now.incoming intent.now }
+    {
+        let incoming = &self.incoming;
+        intent.security == incoming.security
+            && incoming.side != intent.side
+            && has_arrived_before(intent.number, incoming.number)
+            && is_within_limit(intent.side, intent.limit, self.price)
+            && is_within_any_limit(incoming.side, incoming.limit, self.price)
+            && self.quote.reaches(intent.side, &intent.minimums)
+            && self.quote.reaches(incoming.side, &incoming.minimums)
+            && !incoming.jitney
     }
 }
 
@@ -19,10 +48,7 @@ fn are_opposite(a: Side, b: Side) -> bool
 fn has_arrived_before(number: u32, incoming: Option<u32>) -> bool
     ensures { result ≡ arrived_before number incoming }
 {
-    match incoming {
-        Some(later) => number < later,
-        None => true,
-    }
+    incoming.is_none_or(|later| number < later)
 }
 
 /// Whether a price in half ticks is no worse than a limit in ticks.
@@ -40,23 +66,5 @@ fn is_within_limit(side: Side, limit: u32, price: u64) -> bool
 fn is_within_any_limit(side: Side, limit: Option<u32>, price: u64) -> bool
     ensures { result ≡ within_any_limit side limit price }
 {
-    match limit {
-        Some(limit) => is_within_limit(side, limit, price),
-        None => true,
-    }
-}
-
-/// Whether a resting intent is eligible for the incoming party, given the quote in force for the incoming party's security
-/// (`Security::quote_in_force`) and the price rule's price for that quote and the incoming side, in half ticks.
-pub fn is_eligible(quote: &Quote, price: u64, incoming: &Incoming, intent: &Intent) -> bool
-    ensures { result ≡ eligible quote.now price incoming.now intent.now }
-{
-    intent.security == incoming.security
-        && are_opposite(incoming.side, intent.side)
-        && has_arrived_before(intent.number, incoming.number)
-        && is_within_limit(intent.side, intent.limit, price)
-        && is_within_any_limit(incoming.side, incoming.limit, price)
-        && quote.reaches(intent.side, intent.min_spread, intent.min_volume)
-        && quote.reaches(incoming.side, incoming.min_spread, incoming.min_volume)
-        && !incoming.jitney
+    limit.is_none_or(|limit| is_within_limit(side, limit, price))
 }

@@ -2,6 +2,7 @@ ghost use Rattle.std.specs.Prelude.{◌≡◌};
 ghost use Rattle.rules.specs.Incoming.{intent_incoming, order_incoming};
 
 use crate::intents::{Intent, Side};
+use crate::minimums::Minimums;
 use crate::orders::Order;
 
 /// The party that has its turn: an order, or an intent that seeks among those that arrived before it.
@@ -15,46 +16,41 @@ pub struct Incoming {
     pub volume: u32,
     /// In ticks; none for a market order.
     pub limit: Option<u32>,
-    /// 0 for an order, which asks no minimum.
-    pub min_spread: u32,
-    /// 0 for an order, which asks no minimum.
-    pub min_volume: u32,
+    pub minimums: Minimums,
     pub jitney: bool,
 }
 
-impl Order {
-    /// The order as it has its turn.
-    pub fn incoming(&self) -> Incoming
-        ensures { result ≡ order_incoming self.now }
-    {
+/// The order as it has its turn.
+impl From<&Order> for Incoming {
+    ghost from_gives = { λ order r. r ≡ order_incoming order.now };
+
+    fn from(order: &Order) -> Incoming {
         Incoming {
             number: None,
-            security: self.security,
-            subscriber: self.subscriber,
-            side: self.side,
-            volume: self.volume,
-            limit: self.limit,
-            min_spread: 0,
-            min_volume: 0,
-            jitney: self.jitney,
+            security: order.security,
+            subscriber: order.subscriber,
+            side: order.side,
+            volume: order.volume,
+            limit: order.limit,
+            minimums: Minimums::NONE,
+            jitney: order.jitney,
         }
     }
 }
 
-impl Intent {
-    /// The intent as it has its turn, with what remains of it.
-    pub fn incoming(&self) -> Incoming
-        ensures { result ≡ intent_incoming self.now }
-    {
+/// The intent as it has its turn, with what remains of it.
+impl From<&Intent> for Incoming {
+    ghost from_gives = { λ intent r. r ≡ intent_incoming intent.now };
+
+    fn from(intent: &Intent) -> Incoming {
         Incoming {
-            number: Some(self.number),
-            security: self.security,
-            subscriber: self.subscriber,
-            side: self.side,
-            volume: self.remaining,
-            limit: Some(self.limit),
-            min_spread: self.min_spread,
-            min_volume: self.min_volume,
+            number: Some(intent.number),
+            security: intent.security,
+            subscriber: intent.subscriber,
+            side: intent.side,
+            volume: intent.remaining,
+            limit: Some(intent.limit),
+            minimums: intent.minimums,
             jitney: false,
         }
     }

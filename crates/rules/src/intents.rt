@@ -1,17 +1,18 @@
 ghost use Rattle.std.specs.Prelude.{◌≡◌};
 ghost use Rattle.rules.specs.Intents.{in_range, standing, is_blank};
 
+use crate::minimums::Minimums;
 use crate::ranges::Range;
 
 /// The side of the market that an order or an intent is on.
-#[derive(Clone, Copy)]
+#[derive(Clone, Copy, PartialEq, Eq)]
 pub enum Side {
     Buy,
     Sell,
 }
 
 /// A block of shares that a dealer would trade and shows to nobody.
-#[derive(Clone, Copy)]
+#[derive(Clone, Copy, PartialEq, Eq)]
 pub struct Intent {
     pub security: u32,
     pub subscriber: u32,
@@ -22,8 +23,7 @@ pub struct Intent {
     pub remaining: u32,
     /// In ticks.
     pub limit: u32,
-    pub min_spread: u32,
-    pub min_volume: u32,
+    pub minimums: Minimums,
     pub last_day: u32,
     /// The arrival number.
     pub number: u32,
@@ -50,8 +50,7 @@ impl Intent {
         entered: 0,
         remaining: 0,
         limit: 0,
-        min_spread: 0,
-        min_volume: 0,
+        minimums: Minimums::NONE,
         last_day: 0,
         number: 0,
     };
@@ -67,8 +66,7 @@ impl Intent {
             && 1 <= self.remaining
             && self.remaining <= self.entered
             && Range::PRICES.contains(self.limit)
-            && Range::MIN_SPREADS.contains(self.min_spread)
-            && Range::MIN_VOLUMES.contains(self.min_volume)
+            && self.minimums.are_in_range()
             && Range::DAYS.contains(self.last_day)
             && Range::NUMBERS.contains(self.number)
     }
@@ -77,28 +75,19 @@ impl Intent {
     pub fn is_blank(&self) -> bool
         ensures { result ≡ is_blank self.now }
     {
-        self.security == 0
-            && self.subscriber == 0
-            && self.group == 0
-            && matches!(self.side, Side::Buy)
-            && self.entered == 0
-            && self.remaining == 0
-            && self.limit == 0
-            && self.min_spread == 0
-            && self.min_volume == 0
-            && self.last_day == 0
-            && self.number == 0
+        *self == Intent::BLANK
     }
+}
 
-    /// What a priority may read of this intent.
-    pub fn standing(&self) -> Standing
-        ensures { result ≡ standing self.now }
-    {
+impl From<&Intent> for Standing {
+    ghost from_gives = { λ intent r. r ≡ standing intent.now };
+
+    fn from(intent: &Intent) -> Standing {
         Standing {
-            subscriber: self.subscriber,
-            group: self.group,
-            entered: self.entered,
-            number: self.number,
+            subscriber: intent.subscriber,
+            group: intent.group,
+            entered: intent.entered,
+            number: intent.number,
         }
     }
 }

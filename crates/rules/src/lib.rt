@@ -6,6 +6,7 @@ pub mod calls;
 pub mod eligibility;
 pub mod incoming;
 pub mod intents;
+pub mod minimums;
 pub mod orders;
 pub mod phases;
 pub mod prices;

@@ -2,6 +2,7 @@ ghost use Rattle.std.specs.Prelude.{◌≡◌};
 ghost use Rattle.rules.specs.Quotes.{lawful_quote, spread, volume_on, reaches};
 
 use crate::intents::Side;
+use crate::minimums::Minimums;
 use crate::ranges::Range;
 
 /// The best bid and offer of the market, in ticks, with their volumes. Its numbers may be any caller's: only where
@@ -44,9 +45,9 @@ impl Quote {
     }
 
     /// Whether the quote is wide and, on this side, deep enough for an intent's minimums.
-    pub fn reaches(&self, side: Side, min_spread: u32, min_volume: u32) -> bool
-        ensures { result ≡ reaches self.now side min_spread min_volume }
+    pub fn reaches(&self, side: Side, minimums: &Minimums) -> bool
+        ensures { result ≡ reaches self.now side minimums.now }
     {
-        min_spread <= self.spread() && min_volume <= self.volume_on(side)
+        minimums.spread <= self.spread() && minimums.volume <= self.volume_on(side)
     }
 }

@@ -1,50 +1,38 @@
 ghost use Rattle.std.specs.Prelude.{◌≡◌};
 ghost use Rattle.rules.specs.Refusals.{number};
 
-/// Why a call is refused. The book checks by rising number, and the first that applies is the only answer.
+/// Why a call is refused, with the number by which a listing prints it. The book checks by rising number, and the first
+/// that applies is the only answer.
 #[derive(Clone, Copy)]
 pub enum Refusal {
     /// The table is not lawful.
-    Table,
+    Table = 1,
     /// The page has fewer places than intents rest.
-    Page,
+    Page = 2,
     /// The security's number is above 63, or it is listed already.
-    Listing,
+    Listing = 10,
     /// The security's number is above 63, or it is not listed.
-    NotListed,
+    NotListed = 11,
     /// The subscriber or the group is out of range.
-    Party,
+    Party = 20,
     /// The volume is out of range.
-    Volume,
+    Volume = 21,
     /// The limit or a minimum is out of range.
-    Limit,
+    Limit = 22,
     /// The last day is before the present day, or out of range.
-    LastDay,
+    LastDay = 23,
     /// No intent of this subscriber rests under the number.
-    NotResting,
+    NotResting = 24,
     /// As many intents rest as the table has places.
-    Full,
+    Full = 25,
     /// No arrival number is left.
-    NumbersUsedUp,
+    NumbersUsedUp = 26,
 }
 
-impl Refusal {
-    /// The number by which a listing prints the refusal.
-    pub fn number(self) -> u32
-        ensures { result ≡ number self }
-    {
-        match self {
-            Refusal::Table => 1,
-            Refusal::Page => 2,
-            Refusal::Listing => 10,
-            Refusal::NotListed => 11,
-            Refusal::Party => 20,
-            Refusal::Volume => 21,
-            Refusal::Limit => 22,
-            Refusal::LastDay => 23,
-            Refusal::NotResting => 24,
-            Refusal::Full => 25,
-            Refusal::NumbersUsedUp => 26,
-        }
+impl From<Refusal> for u32 {
+    ghost from_gives = { λ refusal r. r ≡ number refusal };
+
+    fn from(refusal: Refusal) -> u32 {
+        refusal as u32
     }
 }

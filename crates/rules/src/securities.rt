@@ -1,5 +1,5 @@
 ghost use Rattle.std.specs.Prelude.{◌≡◌, is_ok, if◌then◌else◌};
-ghost use Rattle.rules.specs.Securities.{list_outcome, just_listed, in_force};
+ghost use Rattle.rules.specs.Securities.{is_listed, list_outcome, just_listed, in_force};
 
 use crate::phases::Phase;
 use crate::quotes::Quote;
@@ -15,19 +15,19 @@ pub enum State {
     Inhibited,
 }
 
-/// One security as the book keeps it. The quote is absent before the first one and after one is withdrawn.
+/// One security as the book keeps it.
 #[derive(Clone, Copy)]
 pub struct Security {
-    pub listed: bool,
-    pub state: State,
+    /// None until it is listed.
+    pub state: Option<State>,
+    /// None before the first quote and after one is withdrawn.
     pub quote: Option<Quote>,
 }
 
 impl Security {
     /// A security that nobody has listed yet.
     pub const UNLISTED: Security = Security {
-        listed: false,
-        state: State::Open,
+        state: None,
         quote: None,
     };
 
@@ -36,15 +36,21 @@ impl Security {
         ensures answer { result ≡ list_outcome self.old }
         ensures after { self.new ≡ (if is_ok result then just_listed else self.old) }
     {
-        if self.listed {
+        if self.is_listed() {
             return Err(Refusal::Listing);
         }
         *self = Security {
-            listed: true,
-            state: State::Open,
+            state: Some(State::Open),
             quote: None,
         };
         Ok(())
+    }
+
+    /// Whether somebody has listed it.
+    pub fn is_listed(&self) -> bool
+        ensures { result ≡ is_listed self.now }
+    {
+        self.state.is_some()
     }
 
     /// The quote that the security trades under now: none outside the regular phase, and none unless it is open.
@@ -52,7 +58,7 @@ impl Security {
         ensures { result ≡ in_force phase self.now }
     {
         match (phase, self.state) {
-            (Phase::Regular, State::Open) => self.quote,
+            (Phase::Regular, Some(State::Open)) => self.quote,
             _ => None,
         }
     }

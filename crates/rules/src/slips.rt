@@ -1,5 +1,5 @@
 /// A match: what the active party took from a resting intent.
-#[derive(Clone, Copy)]
+#[derive(Clone, Copy, Debug, PartialEq, Eq)]
 pub struct Fill {
     /// The arrival number of the intent that had its turn, or 0 for an order.
     pub active: u32,
@@ -12,14 +12,14 @@ pub struct Fill {
 }
 
 /// An intent that has passed its last day, with what it had left.
-#[derive(Clone, Copy)]
+#[derive(Clone, Copy, Debug, PartialEq, Eq)]
 pub struct Lapse {
     pub number: u32,
     pub volume: u32,
 }
 
 /// What a call writes to the page.
-#[derive(Clone, Copy)]
+#[derive(Clone, Copy, Debug, PartialEq, Eq)]
 pub enum Slip {
     Filled(Fill),
     Lapsed(Lapse),

@@ -2,8 +2,10 @@
 ghost use Rattle.std.specs.Prelude.{◌≡◌, true};
 ghost use Rattle.rules.specs.WorkedExamples.{market_order, intent, buys_as_passive, buys_as_active, sells_as_passive, sells_as_active, OneStepInsideAWideSpread, AStepStopsAtTheFarSide, HalfATickAboveALimitFails, AMinimumSpreadJustReached, AMinimumVolumeJustReached};
 
-use crate::eligibility::is_eligible;
+use crate::eligibility::Seeker;
+use crate::incoming::Incoming;
 use crate::intents::{Intent, Side};
+use crate::minimums::Minimums;
 use crate::orders::Order;
 use crate::prices::PriceRule;
 use crate::prices::midpoint::MidpointRule;
@@ -37,8 +39,8 @@ fn market_order(side: Side) -> Order
     }
 }
 
-fn intent_of(number: u32, side: Side, limit: u32, min_spread: u32, min_volume: u32) -> Intent
-    ensures { result ≡ intent number side limit min_spread min_volume }
+fn intent_of(number: u32, side: Side, limit: u32, minimums: Minimums) -> Intent
+    ensures { result ≡ intent number side limit minimums }
 {
     Intent {
         security: 0,
@@ -48,8 +50,7 @@ fn intent_of(number: u32, side: Side, limit: u32, min_spread: u32, min_volume: u
         entered: 500,
         remaining: 500,
         limit,
-        min_spread,
-        min_volume,
+        minimums,
         last_day: 1,
         number,
     }
@@ -59,46 +60,38 @@ fn intent_of(number: u32, side: Side, limit: u32, min_spread: u32, min_volume: u
 fn buys_as_passive(limit: u32) -> bool
     ensures { result ≡ buys_as_passive limit }
 {
-    let price = MidpointRule.price_of(&NARROW, Side::Sell);
-    let buy = intent_of(1, Side::Buy, limit, 0, 0);
-    is_eligible(&NARROW, price, &market_order(Side::Sell).incoming(), &buy)
+    let buy = intent_of(1, Side::Buy, limit, Minimums::NONE);
+    let order = Incoming::from(&market_order(Side::Sell));
+    Seeker::new(&MidpointRule, NARROW, order).may_meet(&buy)
 }
 
 /// Whether a resting sell is eligible for an incoming buy with a limit, at the midpoint of the narrow quote.
 fn buys_as_active(limit: u32) -> bool
     ensures { result ≡ buys_as_active limit }
 {
-    let price = MidpointRule.price_of(&NARROW, Side::Buy);
-    let buy = intent_of(2, Side::Buy, limit, 0, 0);
-    is_eligible(
-        &NARROW,
-        price,
-        &buy.incoming(),
-        &intent_of(1, Side::Sell, 1000, 0, 0),
-    )
+    let buy = Incoming::from(&intent_of(2, Side::Buy, limit, Minimums::NONE));
+    let sell = intent_of(1, Side::Sell, 1000, Minimums::NONE);
+    Seeker::new(&MidpointRule, NARROW, buy).may_meet(&sell)
 }
 
 /// Whether a resting sell with these minimums is eligible for a market order to buy, at the wide quote.
-fn sells_as_passive(min_spread: u32, min_volume: u32) -> bool
-    ensures { result ≡ sells_as_passive min_spread min_volume }
+fn sells_as_passive(spread: u32, volume: u32) -> bool
+    ensures { result ≡ sells_as_passive spread volume }
 {
-    let price = StepRule { ticks: 1 }.price_of(&WIDE, Side::Buy);
-    let sell = intent_of(1, Side::Sell, 1000, min_spread, min_volume);
-    is_eligible(&WIDE, price, &market_order(Side::Buy).incoming(), &sell)
+    let minimums = Minimums { spread, volume };
+    let sell = intent_of(1, Side::Sell, 1000, minimums);
+    let order = Incoming::from(&market_order(Side::Buy));
+    Seeker::new(&StepRule { ticks: 1 }, WIDE, order).may_meet(&sell)
 }
 
 /// Whether a resting buy is eligible for an incoming sell with these minimums, at the wide quote.
-fn sells_as_active(min_spread: u32, min_volume: u32) -> bool
-    ensures { result ≡ sells_as_active min_spread min_volume }
+fn sells_as_active(spread: u32, volume: u32) -> bool
+    ensures { result ≡ sells_as_active spread volume }
 {
-    let price = StepRule { ticks: 1 }.price_of(&WIDE, Side::Sell);
-    let sell = intent_of(2, Side::Sell, 1000, min_spread, min_volume);
-    is_eligible(
-        &WIDE,
-        price,
-        &sell.incoming(),
-        &intent_of(1, Side::Buy, 1010, 0, 0),
-    )
+    let minimums = Minimums { spread, volume };
+    let sell = Incoming::from(&intent_of(2, Side::Sell, 1000, minimums));
+    let buy = intent_of(1, Side::Buy, 1010, Minimums::NONE);
+    Seeker::new(&StepRule { ticks: 1 }, WIDE, sell).may_meet(&buy)
 }
 
 fn one_step_inside_a_wide_spread() -> bool

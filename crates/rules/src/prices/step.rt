@@ -16,9 +16,9 @@ pub struct StepRule {
 impl PriceRule for StepRule {
     const MARK: char = 'S';
 
-    ghost price = { λ rule quote side. step_price rule.ticks quote side };
+    ghost MARK = { step_mark };
 
-    ghost mark = { step_mark };
+    ghost price = { λ rule quote side. step_price rule.ticks quote side };
 
     ghost between = { Prim.search rules };
 
@@ -28,9 +28,5 @@ impl PriceRule for StepRule {
             Side::Buy => 2 * (u64::from(quote.offer) - step),
             Side::Sell => 2 * (u64::from(quote.bid) + step),
         }
-    }
-
-    fn mark_of() -> char {
-        Self::MARK
     }
 }

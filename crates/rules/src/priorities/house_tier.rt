@@ -16,11 +16,7 @@ pub struct HouseTier<P: Priority> {
 fn is_ahead_in_house(a: &Standing, b: &Standing) -> bool
     ensures { result ≡ by_group a.now b.now }
 {
-    if a.group == b.group {
-        a.number < b.number
-    } else {
-        a.group < b.group
-    }
+    (a.group, a.number) < (b.group, b.number)
 }
 
 impl<P: Priority> Priority for HouseTier<P> {
