@@ -7,6 +7,8 @@ use Rattle.rules.specs.declared.intents.Intent.{Intent}
 use Rattle.rules.specs.declared.intents.Side.{Side}
 use Rattle.rules.specs.declared.intents.Side.TheVariants.{Buy, Sell}
 use Rattle.rules.specs.Blanks.{blank_intent}
+use Rattle.rules.specs.declared.minimums.Minimums.{Minimums}
+use Rattle.rules.specs.Minimums.{no_minimums, asks_nothing}
 use Rattle.rules.specs.Intents.{in_range, is_buy, is_blank}
 use Rattle.law.specs.Lists.{every, Each}
 use Rattle.law.specs.Memories.{Memory, capacity, account, lawful_intents, lawful_table, laid_out}
@@ -65,6 +67,10 @@ buy_is : (s : Side) → is_buy s ≡ true → s ≡ Buy
 buy_is Buy h = refl
 buy_is Sell h = absurd (both_ways false refl h)
 
+-- minimums that ask nothing are none
+nothing_is : (m : Minimums) → asks_nothing m ≡ true → m ≡ no_minimums
+nothing_is m h = let parts = and_parts (eqb m.spread 0) _ h in λ j. record { spread = eqb-true m.spread 0 parts.0 j; volume = eqb-true m.volume 0 parts.1 j }
+
 -- what passes the test is the blank intent
 pub blank_is : (p : Intent) → is_blank p ≡ true → p ≡ blank_intent
 blank_is p h =
@@ -75,9 +81,8 @@ blank_is p h =
     let e = and_parts (eqb p.entered 0) _ d.1 in
     let f = and_parts (eqb p.remaining 0) _ e.1 in
     let g = and_parts (eqb p.limit 0) _ f.1 in
-    let k = and_parts (eqb p.min_spread 0) _ g.1 in
-    let l = and_parts (eqb p.min_volume 0) _ k.1 in
-    let m = and_parts (eqb p.last_day 0) _ l.1 in
+    let k = and_parts (asks_nothing p.minimums) _ g.1 in
+    let m = and_parts (eqb p.last_day 0) _ k.1 in
     λ j. record {
       security = eqb-true p.security 0 a.0 j;
       subscriber = eqb-true p.subscriber 0 b.0 j;
@@ -86,8 +91,7 @@ blank_is p h =
       entered = eqb-true p.entered 0 e.0 j;
       remaining = eqb-true p.remaining 0 f.0 j;
       limit = eqb-true p.limit 0 g.0 j;
-      min_spread = eqb-true p.min_spread 0 k.0 j;
-      min_volume = eqb-true p.min_volume 0 l.0 j;
+      minimums = nothing_is p.minimums k.0 j;
       last_day = eqb-true p.last_day 0 m.0 j;
       number = eqb-true p.number 0 m.1 j;
     }

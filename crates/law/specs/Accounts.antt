@@ -50,19 +50,7 @@ abbrev pub traded : ℕ → List Fill → ℕ
 traded n fs = total (λ (f : Fill). cond (f.active == n || f.passive == n) f.volume 0) fs
 
 abbrev pub with_left : Intent → ℕ → Intent
-with_left p v = record {
-  security = p.security;
-  subscriber = p.subscriber;
-  group = p.group;
-  side = p.side;
-  entered = p.entered;
-  remaining = v;
-  limit = p.limit;
-  min_spread = p.min_spread;
-  min_volume = p.min_volume;
-  last_day = p.last_day;
-  number = p.number;
-}
+with_left p v = record p { remaining = v }
 
 -- what is left of the intents after some fills; an emptied one leaves
 abbrev pub lessen : List Fill → List Intent → List Intent
@@ -86,14 +74,14 @@ find n (p ∷ ps) = cond (p.number == n) (Some p) (find n ps)
 
 -- an account with other resting intents
 abbrev pub holding : Account → List Intent → Account
-holding a ps = record { phase = a.phase; day = a.day; next = a.next; securities = a.securities; resting = ps }
+holding a ps = record a { resting = ps }
 
 abbrev pub with_securities : Account → List Security → Account
-with_securities a ss = record { phase = a.phase; day = a.day; next = a.next; securities = ss; resting = a.resting }
+with_securities a ss = record a { securities = ss }
 
 -- one arrival number is used up
 abbrev pub numbered : Account → Account
-numbered a = record { phase = a.phase; day = a.day; next = a.next + 1; securities = a.securities; resting = a.resting }
+numbered a = record a { next = a.next + 1 }
 
 -- an intent as it comes in, under its number
 abbrev pub new_intent : ℕ → Terms → Intent
@@ -105,8 +93,7 @@ new_intent n t = record {
   entered = t.volume;
   remaining = t.volume;
   limit = t.limit;
-  min_spread = t.min_spread;
-  min_volume = t.min_volume;
+  minimums = t.minimums;
   last_day = t.last_day;
   number = n;
 }

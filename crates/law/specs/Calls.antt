@@ -22,14 +22,14 @@ with_entry a t fs = numbered (holding a (lessen fs (a.resting ++ (new_intent a.n
 abbrev pub advanced : Account → Call → List Fill → Account
 advanced a (list_call s) fs = with_securities a (slice_set a.securities s just_listed)
 advanced a (enter_call t) fs = with_entry a t fs
-advanced a (cancel_call subscriber n) fs = holding a (without n a.resting)
+advanced a (cancel_call r) fs = holding a (without r.number a.resting)
 advanced a (order_call o) fs = holding a (lessen fs a.resting)
 
 -- the slips that a call with the fills fs writes
 abbrev pub slips_of : Call → List Fill → List Slip
 slips_of (list_call s) fs = []
 slips_of (enter_call t) fs = map Filled fs
-slips_of (cancel_call subscriber n) fs = []
+slips_of (cancel_call r) fs = []
 slips_of (order_call o) fs = map Filled fs
 
 abbrev pub entered : Account → Terms → List Fill → Entered
@@ -44,5 +44,5 @@ ordered o fs = record { residual = o.volume - volume_of fs; slips = length fs }
 abbrev pub answer_of : Account → Call → List Fill → Answer
 answer_of a (list_call s) fs = Listed
 answer_of a (enter_call t) fs = entered_answer (entered a t fs)
-answer_of a (cancel_call subscriber n) fs = Cancelled (withdrawn a n)
+answer_of a (cancel_call r) fs = Cancelled (withdrawn a r.number)
 answer_of a (order_call o) fs = ordered_answer (ordered o fs)

@@ -4,7 +4,10 @@ use Rattle.rules.specs.declared.intents.Intent.{Intent}
 use Rattle.rules.specs.declared.orders.Order.{Order}
 use Rattle.rules.specs.declared.refusals.Refusal.{Refusal}
 use Rattle.rules.specs.declared.refusals.Refusal.TheVariants.{Table, Page, Listing, NotListed, Party, Volume, Limit, LastDay, NotResting, Full, NumbersUsedUp}
-use Rattle.rules.specs.Ranges.{is_security, is_subscriber, is_group, is_volume, is_price, is_min_spread, is_min_volume, is_day}
+use Rattle.rules.specs.declared.minimums.Minimums.{Minimums}
+use Rattle.rules.specs.Minimums.{are_minimums}
+use Rattle.rules.specs.Securities.{is_listed}
+use Rattle.rules.specs.Ranges.{is_security, is_subscriber, is_group, is_volume, is_price, is_day}
 use Rattle.law.specs.declared.calls.Call.{Call}
 use Rattle.law.specs.declared.calls.Call.TheVariants.{List as list_call, Enter as enter_call, Cancel as cancel_call, Order as order_call}
 use Rattle.law.specs.declared.calls.Terms.{Terms}
@@ -36,10 +39,10 @@ module _ (m : Memory) where
   page_check = (nat_le m.count (length m.page), Page)
 
   abbrev pub unlisted_check : ℕ → Check
-  unlisted_check s = (not (security (account m) s).listed, Listing)
+  unlisted_check s = (not (is_listed (security (account m) s)), Listing)
 
   abbrev pub listed_check : ℕ → Check
-  listed_check s = (is_security s && (security (account m) s).listed, NotListed)
+  listed_check s = (is_security s && is_listed (security (account m) s), NotListed)
 
   abbrev pub party_check : ℕ → ℕ → Check
   party_check subscriber group = (is_subscriber subscriber && is_group group, Party)
@@ -47,8 +50,8 @@ module _ (m : Memory) where
   abbrev pub volume_check : ℕ → Check
   volume_check volume = (is_volume volume, Volume)
 
-  abbrev pub limit_check : ℕ → ℕ → ℕ → Check
-  limit_check limit min_spread min_volume = (is_price limit && (is_min_spread min_spread && is_min_volume min_volume), Limit)
+  abbrev pub limit_check : ℕ → Minimums → Check
+  limit_check limit minimums = (is_price limit && are_minimums minimums, Limit)
 
   -- the present day is early enough, and there is such a day
   abbrev pub last_day_check : ℕ → Check
@@ -70,7 +73,7 @@ module _ (m : Memory) where
   enter_checks t =
       table_check ∷ (page_check ∷ (listed_check t.security ∷
       (party_check t.subscriber t.group ∷ (volume_check t.volume ∷
-      (limit_check t.limit t.min_spread t.min_volume ∷ (last_day_check t.last_day ∷
+      (limit_check t.limit t.minimums ∷ (last_day_check t.last_day ∷
       (room_check ∷ (number_check ∷ []))))))))
 
   abbrev pub cancel_checks : ℕ → ℕ → List Check
@@ -84,5 +87,5 @@ module _ (m : Memory) where
   abbrev pub checks : Call → List Check
   checks (list_call s) = list_checks s
   checks (enter_call t) = enter_checks t
-  checks (cancel_call subscriber n) = cancel_checks subscriber n
+  checks (cancel_call r) = cancel_checks r.subscriber r.number
   checks (order_call o) = order_checks o

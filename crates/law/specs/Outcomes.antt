@@ -22,14 +22,14 @@ use Rattle.law.specs.Turns.{Rules}
 abbrev pub call_fills : Rules → Account → Call → List Fill
 call_fills rules a (list_call s) = []
 call_fills rules a (enter_call t) = turn_fills rules a (intent_incoming (new_intent a.next t))
-call_fills rules a (cancel_call subscriber n) = []
+call_fills rules a (cancel_call r) = []
 call_fills rules a (order_call o) = turn_fills rules a (order_incoming o)
 
 -- what an accepted call with the fills fs leaves; list needs no table, and leaves table, count and page as they are
 abbrev pub left_by : Memory → Call → List Fill → Memory
-left_by m (list_call s) fs = record { phase = m.phase; day = m.day; next = m.next; securities = (advanced (account m) (list_call s) fs).securities; count = m.count; table = m.table; page = m.page }
+left_by m (list_call s) fs = record m { securities = (advanced (account m) (list_call s) fs).securities }
 left_by m (enter_call t) fs = stored m (advanced (account m) (enter_call t) fs) (slips_of (enter_call t) fs)
-left_by m (cancel_call subscriber n) fs = stored m (advanced (account m) (cancel_call subscriber n) fs) (slips_of (cancel_call subscriber n) fs)
+left_by m (cancel_call r) fs = stored m (advanced (account m) (cancel_call r) fs) (slips_of (cancel_call r) fs)
 left_by m (order_call o) fs = stored m (advanced (account m) (order_call o) fs) (slips_of (order_call o) fs)
 
 abbrev pub accepted : Rules → Memory → Call → Memory

@@ -2,6 +2,7 @@ ghost use Rattle.std.specs.Prelude.{◌≡◌};
 ghost use Rattle.law.specs.Accounts.{new_intent};
 
 use rules::intents::{Intent, Side};
+use rules::minimums::Minimums;
 use rules::orders::Order;
 
 /// The terms of a new intent, as the caller gave them.
@@ -15,8 +16,7 @@ pub struct Terms {
     pub volume: u32,
     /// In ticks.
     pub limit: u32,
-    pub min_spread: u32,
-    pub min_volume: u32,
+    pub minimums: Minimums,
     pub last_day: u32,
 }
 
@@ -33,12 +33,19 @@ impl Terms {
             entered: self.volume,
             remaining: self.volume,
             limit: self.limit,
-            min_spread: self.min_spread,
-            min_volume: self.min_volume,
+            minimums: self.minimums,
             last_day: self.last_day,
             number,
         }
     }
+}
+
+/// What a subscriber names one of its resting intents by.
+#[derive(Clone, Copy)]
+pub struct Reference {
+    pub subscriber: u32,
+    /// The arrival number.
+    pub number: u32,
 }
 
 /// A call on the book. Its numbers come as the caller gave them: nothing is narrowed before the book has checked it.
@@ -46,6 +53,6 @@ impl Terms {
 pub enum Call {
     List { security: u32 },
     Enter(Terms),
-    Cancel { subscriber: u32, number: u32 },
+    Cancel(Reference),
     Order(Order),
 }

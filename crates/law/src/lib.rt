@@ -4,3 +4,4 @@
 
 pub mod answers;
 pub mod calls;
+pub mod rule_sets;

@@ -1,13 +1,17 @@
 -- What a scan of the table finds.
-use Rattle.std.proofs.Common.{◌≡◌, ℕ, suc, ◌+◌, ◌-◌, ◌<◌, ◌≤◌, Bool, true, false, cond, ◌&&◌, eqb, List, [], ◌∷◌, length, take, drop, Some, None, refl, ap, ◌∙◌, arith}
+use Rattle.std.proofs.Common.{◌≡◌, ℕ, ◌+◌, ◌-◌, ◌≤◌, Bool, cond, ◌&&◌, eqb, ltb, List, [], ◌∷◌, length, take, drop, Some, None, Option, slice_get, sym, refl, subst, ap, ◌∙◌, arith}
+use Rattle.std.specs.List.{find as find_first, position, position_or_len}
+use Rattle.std.proofs.lemmas.List.Folds.{find_at}
 use Rattle.std.proofs.lemmas.List.{drop-take}
-use Rattle.std.proofs.lemmas.Bool.{le-leb}
+use Rattle.std.proofs.lemmas.Bool.{le-leb, ltb-true, ltb-false, cond_both}
+use Rattle.std.proofs.lemmas.Option.{slice_get-get_or, slice_get_past}
+use Rattle.rules.specs.Blanks.{blank_intent}
 use Rattle.rules.specs.declared.intents.Intent.{Intent}
 use Rattle.rules.specs.Intents.{is_blank}
 use Rattle.law.specs.Accounts.{find}
 use Rattle.law.specs.Lists.{every}
 use Rattle.law.specs.Memories.{capacity, lawful_intents, lawful_table}
-use Rattle.ledger.specs.Places.{at, position}
+use Rattle.ledger.specs.Places.{at, has_number}
 
 -- a table whose count fits is judged by its two parts
 pub lawful_parts : (count next : ℕ) (table : List Intent) → count ≤ capacity table →
@@ -19,20 +23,23 @@ lawful_parts count next table h =
     ∙ ap (λ (l : List Intent). lawful_intents 0 next (take count table) && every is_blank l) (ap (λ (k : ℕ). drop count (take k table)) whole ∙ drop-take count (capacity table - count) table)
     ∙ ap (λ (k : ℕ). lawful_intents 0 next (take k table) && every is_blank (take (capacity table - count) (drop count table))) front
 
--- the intent with a number stands at its position
-pub found_here : (n : ℕ) (ps : List Intent) → position n ps < length ps → find n ps ≡ Some (at ps (position n ps))
-found_here n [] h = absurd (omega arith)
-found_here n (p ∷ ps) h = by (eqb p.number n) h (found_here n ps)
-  where
-    by : (b : Bool) → cond b 0 (suc (position n ps)) < suc (length ps) → (position n ps < length ps → find n ps ≡ Some (at ps (position n ps))) →
-        cond b (Some p) (find n ps) ≡ Some (at (p ∷ ps) (cond b 0 (suc (position n ps))))
-    by true l more = refl
-    by false l more = more (omega arith)
+find_numbered : (n : ℕ) (ps : List Intent) → find n ps ≡ find_first (has_number n) ps
+find_numbered n [] = refl
+find_numbered n (p ∷ ps) = ap (cond (eqb p.number n) (Some p)) (find_numbered n ps)
 
-pub found_nowhere : (n : ℕ) (ps : List Intent) → length ps ≤ position n ps → find n ps ≡ None
-found_nowhere n [] h = refl
-found_nowhere n (p ∷ ps) h = by (eqb p.number n) h (found_nowhere n ps)
+-- the intent with a number stands in the first place that has it
+found_at : (n : ℕ) (ps : List Intent) → find n ps ≡ slice_get ps (position_or_len (has_number n) ps)
+found_at n ps = find_numbered n ps ∙ find_at (has_number n) ps
+
+-- what is found, by the place where it is
+abbrev pub Located : ℕ → List Intent → Option ℕ → Type 0
+Located n ps None = find n ps ≡ None
+Located n ps (Some k) = (position_or_len (has_number n) ps ≡ k) × (find n ps ≡ Some (at ps k))
+
+pub located : (n : ℕ) (ps : List Intent) (o : Option ℕ) → o ≡ position (has_number n) ps → Located n ps o
+located n ps o e =
+    subst (Located n ps) (sym e)
+    (cond_both (ltb k (length ps)) (Some k) None (Located n ps) (λ t. (refl, found_at n ps ∙ slice_get-get_or ps k blank_intent (ltb-true k (length ps) t))) (λ f. found_at n ps ∙ slice_get_past ps k (ltb-false k (length ps) f)))
   where
-    by : (b : Bool) → suc (length ps) ≤ cond b 0 (suc (position n ps)) → (length ps ≤ position n ps → find n ps ≡ None) → cond b (Some p) (find n ps) ≡ None
-    by true l more = absurd (omega arith)
-    by false l more = more (omega arith)
+    k : ℕ
+    k = position_or_len (has_number n) ps

@@ -19,4 +19,4 @@ abbrev pub ledger_of : Memory → Ledger
 ledger_of m = record { phase = m.phase; day = m.day; next = m.next; securities = m.securities; count = m.count }
 
 abbrev pub with_listed : Ledger → ℕ → Ledger
-with_listed l s = record { phase = l.phase; day = l.day; next = l.next; securities = slice_set l.securities s just_listed; count = l.count }
+with_listed l s = record l { securities = slice_set l.securities s just_listed }

@@ -1,5 +1,5 @@
 -- Places of the table while a call runs: an emptied intent keeps its place until the table is closed up.
-use Rattle.std.specs.Prelude.{ℕ, suc, Bool, cond, ◌&&◌, List, [], ◌∷◌, ◌==◌, nat_lt, slice_index_or}
+use Rattle.std.specs.Prelude.{ℕ, Bool, ◌&&◌, List, ◌==◌, nat_lt, slice_index_or}
 use Rattle.rules.specs.declared.intents.Intent.{Intent}
 use Rattle.rules.specs.Blanks.{blank_intent}
 use Rattle.rules.specs.Intents.{in_range}
@@ -15,7 +15,6 @@ live p = nat_lt 0 p.remaining
 abbrev pub may_follow : ℕ → ℕ → Intent → Bool
 may_follow last next p = in_range p && (nat_lt last p.number && nat_lt p.number next)
 
--- the place of the first intent with a number; the length where there is none
-abbrev pub position : ℕ → List Intent → ℕ
-position n [] = 0
-position n (p ∷ ps) = cond (p.number == n) 0 (suc (position n ps))
+-- whether it is the intent with a number
+abbrev pub has_number : ℕ → Intent → Bool
+has_number n p = p.number == n

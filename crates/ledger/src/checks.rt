@@ -1,17 +1,20 @@
 //! The checks of each call, in their order: the first that fails is the refusal.
 ghost use Rattle.std.specs.Prelude.{◌≡◌, ◌<◌, ◌&&◌, [], ◌∷◌, length, take, IfOk, nat_le, slice_index_or};
+ghost use Rattle.std.specs.List.{position_or_len};
 ghost use Rattle.law.specs.Accounts.{find};
 ghost use Rattle.law.specs.Checks.{checked, is_price_if_any, is_of, enter_checks, order_checks, cancel_checks};
 ghost use Rattle.ledger.specs.Ledgers.{memory};
-ghost use Rattle.ledger.specs.Places.{position};
-ghost use Rattle.rules.specs.Ranges.{is_security, is_subscriber, is_group, is_price, is_min_spread, is_min_volume, is_day};
-ghost use Rattle.rules.specs.Securities.{unlisted};
+ghost use Rattle.ledger.specs.Places.{has_number};
+ghost use Rattle.rules.specs.Minimums.{are_minimums};
+ghost use Rattle.rules.specs.Ranges.{is_security, is_subscriber, is_group, is_price, is_day};
+ghost use Rattle.rules.specs.Securities.{unlisted, is_listed};
 ghost use Rattle.rules.specs.declared.refusals.Refusal.TheVariants.{NotResting};
 
-use crate::ledgers::{Ledger, SECURITIES};
+use crate::ledgers::Ledger;
 use crate::tables::{capacity_of, is_lawful, position_of};
-use law::calls::Terms;
+use law::calls::{Reference, Terms};
 use rules::intents::Intent;
+use rules::minimums::Minimums;
 use rules::orders::Order;
 use rules::ranges::Range;
 use rules::refusals::Refusal;
@@ -32,44 +35,37 @@ fn is_party(subscriber: u32, group: u32) -> bool
 }
 
 /// Whether a limit and the minimums of an intent are in range.
-fn are_bounds(limit: u32, min_spread: u32, min_volume: u32) -> bool
-    ensures { result ≡ is_price limit && (is_min_spread min_spread && is_min_volume min_volume) }
+fn are_bounds(limit: u32, minimums: &Minimums) -> bool
+    ensures { result ≡ is_price limit && are_minimums minimums.now }
 {
-    Range::PRICES.contains(limit)
-        && Range::MIN_SPREADS.contains(min_spread)
-        && Range::MIN_VOLUMES.contains(min_volume)
+    Range::PRICES.contains(limit) && minimums.are_in_range()
 }
 
 /// Whether an order's limit is in range, if it has one.
 fn is_limit(limit: Option<u32>) -> bool
     ensures { result ≡ is_price_if_any limit }
 {
-    match limit {
-        Some(limit) => Range::PRICES.contains(limit),
-        None => true,
-    }
+    limit.is_none_or(|limit| Range::PRICES.contains(limit))
 }
 
-/// The place of a subscriber's intent with this number.
-fn place_of(intents: &[Intent], subscriber: u32, number: u32) -> Result<usize, Refusal>
+/// The place of the intent that a subscriber names.
+fn place_of(intents: &[Intent], reference: &Reference) -> Result<usize, Refusal>
     ensures within { IfOk result (λ k. k < length intents.now) }
-    ensures answer { result ≡ checked ((is_of subscriber (find number intents.now), NotResting) ∷ []) (position number intents.now) }
+    ensures answer { result ≡ checked ((is_of reference.now.subscriber (find reference.now.number intents.now), NotResting) ∷ []) (position_or_len (has_number reference.now.number) intents.now) }
 {
-    let place = position_of(intents, number);
-    if place < intents.len() && intents[place].subscriber == subscriber {
-        Ok(place)
-    } else {
-        Err(Refusal::NotResting)
+    match position_of(intents, reference.number) {
+        Some(place) if intents[place].subscriber == reference.subscriber => Ok(place),
+        _ => Err(Refusal::NotResting),
     }
 }
 
 impl Ledger {
     /// Whether the security is listed.
     fn is_listed(&self, security: u32) -> bool
-        ensures { result ≡ is_security security && (slice_index_or self.now.securities security unlisted).listed }
+        ensures { result ≡ is_security security && is_listed (slice_index_or self.now.securities security unlisted) }
     {
-        let place = security as usize;
-        place < SECURITIES && self.securities[place].listed
+        let security = self.securities.get(security as usize);
+        security.is_some_and(|security| security.is_listed())
     }
 
     /// Whether a last day has not passed yet.
@@ -88,10 +84,7 @@ impl Ledger {
         need(self.is_listed(terms.security), Refusal::NotListed)?;
         need(is_party(terms.subscriber, terms.group), Refusal::Party)?;
         need(Range::VOLUMES.contains(terms.volume), Refusal::Volume)?;
-        need(
-            are_bounds(terms.limit, terms.min_spread, terms.min_volume),
-            Refusal::Limit,
-        )?;
+        need(are_bounds(terms.limit, &terms.minimums), Refusal::Limit)?;
         need(self.is_last_day(terms.last_day), Refusal::LastDay)?;
         need(self.count < capacity_of(table), Refusal::Full)?;
         need(self.next <= Range::NUMBERS.high, Refusal::NumbersUsedUp)
@@ -113,16 +106,11 @@ impl Ledger {
     }
 
     /// Checks the call cancel, and answers the place of the intent.
-    pub fn check_cancel(
-        &self,
-        table: &[Intent],
-        subscriber: u32,
-        number: u32,
-    ) -> Result<usize, Refusal>
+    pub fn check_cancel(&self, table: &[Intent], reference: &Reference) -> Result<usize, Refusal>
         ensures within { IfOk result (λ k. k < length table.now) }
-        ensures answer { result ≡ checked (cancel_checks (memory self.now table.now []) subscriber number) (position number (take self.now.count table.now)) }
+        ensures answer { result ≡ checked (cancel_checks (memory self.now table.now []) reference.now.subscriber reference.now.number) (position_or_len (has_number reference.now.number) (take self.now.count table.now)) }
     {
         need(is_lawful(table, self.count, self.next), Refusal::Table)?;
-        place_of(&table[0..self.count], subscriber, number)
+        place_of(&table[0..self.count], reference)
     }
 }

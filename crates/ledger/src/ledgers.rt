@@ -68,12 +68,7 @@ impl Ledger {
     pub fn quote_in_force(&self, security: u32) -> Option<Quote>
         ensures { result ≡ in_force self.now.phase (slice_index_or self.now.securities security unlisted) }
     {
-        let securities: &[Security] = &self.securities;
-        let place = security as usize;
-        if place < securities.len() {
-            securities[place].quote_in_force(self.phase)
-        } else {
-            None
-        }
+        let security = self.securities.get(security as usize)?;
+        security.quote_in_force(self.phase)
     }
 }

@@ -1,8 +1,9 @@
 //! The lent table: which places of it count, whether it is lawful, and how it is closed up.
 ghost use Rattle.std.specs.Prelude.{◌≡◌, ◌-◌, ◌++◌, length, replicate};
+ghost use Rattle.std.specs.List.{position};
 ghost use Rattle.law.specs.Lists.{keep, every};
 ghost use Rattle.law.specs.Memories.{capacity, lawful_intents, lawful_table};
-ghost use Rattle.ledger.specs.Places.{live, may_follow, position};
+ghost use Rattle.ledger.specs.Places.{live, may_follow, has_number};
 ghost use Rattle.rules.specs.Blanks.{blank_intent};
 ghost use Rattle.rules.specs.Intents.{is_blank};
 
@@ -63,25 +64,18 @@ pub fn is_lawful(table: &[Intent], count: usize, next: u32) -> bool
     are_lawful(&table[0..count], next) && are_blank(&table[count..capacity])
 }
 
-/// The place of the intent with this number; the length where there is none.
-pub fn position_of(intents: &[Intent], number: u32) -> usize
-    ensures { result ≡ position number intents.now }
+/// The place of the intent with this number.
+pub fn position_of(intents: &[Intent], number: u32) -> Option<usize>
+    ensures { result ≡ position (has_number number) intents.now }
 {
-    for i in 0..intents.len() {
-        if intents[i].number == number {
-            return i;
-        }
-    }
-    intents.len()
+    intents.iter().position(|intent| intent.number == number)
 }
 
 /// Blanks all places.
 pub fn blank(places: &mut [Intent])
     ensures { places.new ≡ replicate (length places.old) blank_intent }
 {
-    for place in places.iter_mut() {
-        *place = Intent::BLANK;
-    }
+    places.fill(Intent::BLANK);
 }
 
 /// Moves the intents that have something left together, in their order, and blanks the places that come free. Answers how

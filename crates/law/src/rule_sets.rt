@@ -1,0 +1,21 @@
+//! What a book matches by.
+ghost use Rattle.law.specs.Turns.{Rules};
+
+use rules::prices::PriceRule;
+use rules::priorities::Priority;
+
+/// A priority and a price rule: all that the rules of a turn leave open.
+#[derive(Drop)]
+pub struct RuleSet<P: Priority, R: PriceRule> {
+    pub priority: P,
+    pub rule: R,
+}
+
+/// What a rule set means, in the words of the law: clauses name it so.
+pub trait Meaning {
+    ghost rules: { Self → Rules };
+}
+
+impl<P: Priority, R: PriceRule> Meaning for RuleSet<P, R> {
+    ghost rules = { λ set. record { ahead = P.Priority.ahead set.priority; price = R.PriceRule.price set.rule; mark = R.PriceRule.MARK } };
+}
