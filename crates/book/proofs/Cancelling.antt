@@ -1,11 +1,12 @@
 -- The call cancel: the intent that is emptied leaves.
-use Rattle.std.proofs.Common.{◌≡◌, ℕ, suc, ◌-◌, ◌<◌, ◌≤◌, Bool, true, false, cond, not, eqb, List, [], ◌∷◌, ◌++◌, length, take, drop, set, replicate, Ok, sym, refl, ap, ◌∙◌, ⊎_elim, arith, drop-set-lt}
+use Rattle.std.proofs.Common.{◌≡◌, ℕ, zero, suc, ◌+◌, ◌-◌, ◌<◌, ◌≤◌, Bool, true, false, cond, not, eqb, List, [], ◌∷◌, ◌++◌, length, take, drop, set, replicate, Ok, sym, refl, ap, ◌∙◌, ⊎_elim, arith, drop-set-lt}
 use lib.Seq.{take-set-lt}
 use Rattle.std.proofs.lemmas.List.{get_or-take}
 use Rattle.std.proofs.lemmas.Bool.{cond-true, cases_lt, both_ways, lt-ltb, eqb-true, ne_eqb}
 use Rattle.rules.specs.declared.intents.Intent.{Intent}
 use Rattle.rules.specs.Blanks.{blank_intent}
 use Rattle.law.specs.declared.calls.Call.TheVariants.{Cancel as cancel_call}
+use Rattle.law.specs.declared.calls.Reference.{Reference}
 use Rattle.law.specs.Accounts.{with_left, without, left_of, find}
 use Rattle.law.specs.Checks.{checked, is_of, cancel_checks}
 use Rattle.law.specs.Lists.{keep, Each, Pairwise}
@@ -18,32 +19,45 @@ use Rattle.law.proofs.Lessened.{left_found}
 use Rattle.law.proofs.Lists.{each_weaker, keep_all, keep_short}
 use Rattle.law.proofs.Numbers.{Apart, rising_apart}
 use Rattle.law.proofs.Outcomes.{after_accepted}
-use Rattle.ledger.specs.Places.{at, live, position}
+use Rattle.std.specs.List.{position_or_len}
+use Rattle.ledger.specs.Places.{at, live, has_number}
 use Rattle.ledger.proofs.Scans.{found_here, found_nowhere}
 use Rattle.book.proofs.Matching.{laid_out_less}
 
+-- the place of the intent with a number
+abbrev place_in : ℕ → List Intent → ℕ
+place_in n ps = position_or_len (has_number n) ps
+
 -- an emptied intent is the one that leaves
-emptied_leaves : (n : ℕ) (ps : List Intent) → Each (λ (p : Intent). 1 ≤ p.remaining) ps → Pairwise Apart ps → position n ps < length ps →
-    keep live (set ps (position n ps) (with_left (at ps (position n ps)) 0)) ≡ without n ps
-emptied_leaves n [] some apart here = absurd (omega arith)
-emptied_leaves n (p ∷ ps) some apart here = by (eqb p.number n) refl here (emptied_leaves n ps some.1 apart.1)
+emptied_leaves : (n : ℕ) (ps : List Intent) (k : ℕ) → Each (λ (p : Intent). 1 ≤ p.remaining) ps → Pairwise Apart ps → k ≡ place_in n ps → k < length ps →
+    keep live (set ps k (with_left (at ps k) 0)) ≡ without n ps
+emptied_leaves n [] k some apart is here = absurd (omega arith)
+emptied_leaves n (p ∷ ps) k some apart is here = by (eqb p.number n) refl k is here (λ j. emptied_leaves n ps j some.1 apart.1)
   where
-    by : (b : Bool) → eqb p.number n ≡ b → cond b 0 (suc (position n ps)) < suc (length ps) →
-        (position n ps < length ps → keep live (set ps (position n ps) (with_left (at ps (position n ps)) 0)) ≡ without n ps) →
-        keep live (set (p ∷ ps) (cond b 0 (suc (position n ps))) (with_left (at (p ∷ ps) (cond b 0 (suc (position n ps)))) 0)) ≡ cond (not b) (p ∷ without n ps) (without n ps)
-    by true e l more =
+    by : (b : Bool) → eqb p.number n ≡ b → (k : ℕ) → k ≡ cond (not b) (1 + place_in n ps) 0 → k < suc (length ps) →
+        ((j : ℕ) → j ≡ place_in n ps → j < length ps → keep live (set ps j (with_left (at ps j) 0)) ≡ without n ps) →
+        keep live (set (p ∷ ps) k (with_left (at (p ∷ ps) k) 0)) ≡ cond (not b) (p ∷ without n ps) (without n ps)
+    by true e zero is l more =
         keep_all live ps (each_weaker _ _ (λ q h. lt-ltb 0 q.remaining h) ps some.1)
         ∙ sym (keep_all (λ (q : Intent). not (eqb q.number n)) ps (each_weaker _ _ (λ q d. ap not (ne_eqb _ _ (λ k. d (eqb-true p.number n e ∙ sym k)))) ps apart.0))
-    by false e l more =
-        cond-true (live p) (p ∷ keep live (set ps (position n ps) (with_left (at ps (position n ps)) 0))) _ (lt-ltb 0 p.remaining some.0)
-        ∙ ap (λ (l : List Intent). p ∷ l) (more (omega arith))
+    by true e (suc k) is l more = absurd (omega arith)
+    by false e zero is l more = absurd (omega arith)
+    by false e (suc k) is l more =
+        cond-true (live p) (p ∷ keep live (set ps k (with_left (at ps k) 0))) _ (lt-ltb 0 p.remaining some.0)
+        ∙ ap (λ (l : List Intent). p ∷ l) (more k (omega arith) (omega arith))
 
 -- where the check passes, the number is that of a resting intent
-is_there : (subscriber n : ℕ) (ps : List Intent) → is_of subscriber (find n ps) ≡ true → position n ps < length ps
+is_there : (subscriber n : ℕ) (ps : List Intent) → is_of subscriber (find n ps) ≡ true → place_in n ps < length ps
 is_there subscriber n ps e =
-    ⊎_elim (λ l. l) (λ l. absurd (both_ways false refl (sym (ap (is_of subscriber) (found_nowhere n ps l)) ∙ e))) (cases_lt (position n ps) (length ps))
+    ⊎_elim (λ l. l) (λ l. absurd (both_ways false refl (sym (ap (is_of subscriber) (found_nowhere n ps l)) ∙ e))) (cases_lt (place_in n ps) (length ps))
 
-module _ (rules : Rules) (m : Memory) (subscriber n place : ℕ) (passed : Ok place ≡ checked (cancel_checks m subscriber n) (position n (take m.count m.table))) where
+module _ (rules : Rules) (m : Memory) (r : Reference) (place : ℕ) (passed : Ok place ≡ checked (cancel_checks m r.subscriber r.number) (place_in r.number (take m.count m.table))) where
+  abbrev subscriber : ℕ
+  subscriber = r.subscriber
+
+  abbrev n : ℕ
+  n = r.number
+
   abbrev ps : List Intent
   ps = take m.count m.table
 
@@ -51,11 +65,11 @@ module _ (rules : Rules) (m : Memory) (subscriber n place : ℕ) (passed : Ok pl
   abbrev emptied : List Intent
   emptied = set m.table place (with_left (at m.table place) 0)
 
-  place_is : place ≡ position n ps
-  place_is = let e = checked_ok (cancel_checks m subscriber n) (position n ps) place (position n ps) (sym passed) in cc
+  place_is : place ≡ place_in n ps
+  place_is = let e = checked_ok (cancel_checks m subscriber n) (place_in n ps) place (place_in n ps) (sym passed) in cc
 
   lawful : lawful_table m.count m.next m.table ≡ true
-  lawful = (checked_passes (cancel_checks m subscriber n) (position n ps) place (sym passed)).0
+  lawful = (checked_passes (cancel_checks m subscriber n) (place_in n ps) place (sym passed)).0
 
   intents : lawful_intents 0 m.next ps ≡ true
   intents = (table_parts m.count m.next m.table lawful).intents
@@ -63,30 +77,30 @@ module _ (rules : Rules) (m : Memory) (subscriber n place : ℕ) (passed : Ok pl
   apart : Pairwise Apart ps
   apart = rising_apart ps (lawful_rising 0 m.next ps intents)
 
-  here : position n ps < length ps
-  here = is_there subscriber n ps (checked_passes (cancel_checks m subscriber n) (position n ps) place (sym passed)).1.0
+  here : place_in n ps < length ps
+  here = is_there subscriber n ps (checked_passes (cancel_checks m subscriber n) (place_in n ps) place (sym passed)).1.0
 
   many : length ps ≡ m.count
   many = lawful_count m.count m.next m.table lawful
 
-  same : at m.table place ≡ at ps (position n ps)
-  same = ap (at m.table) place_is ∙ sym (get_or-take m.count m.table (position n ps) blank_intent (let l = many in let h = here in omega arith))
+  same : at m.table place ≡ at ps (place_in n ps)
+  same = ap (at m.table) place_is ∙ sym (get_or-take m.count m.table (place_in n ps) blank_intent (let l = many in let h = here in omega arith))
 
   leaves : keep live (take m.count emptied) ≡ without n ps
   leaves =
       let inside : place < m.count = omega (arith, place_is, here, many) in
       ap (keep live) (take-set-lt m.count m.table place (with_left (at m.table place) 0) inside
-      ∙ ap (λ (x : Intent). set ps place (with_left x 0)) same ∙ ap (λ (k : ℕ). set ps k (with_left (at ps (position n ps)) 0)) place_is)
-      ∙ emptied_leaves n ps (lawful_left 0 m.next ps intents) apart here
+      ∙ ap (λ (x : Intent). set ps place (with_left x 0)) same ∙ ap (λ (k : ℕ). set ps k (with_left (at ps (place_in n ps)) 0)) place_is)
+      ∙ emptied_leaves n ps (place_in n ps) (lawful_left 0 m.next ps intents) apart refl here
 
   pub cancel_answered : Ok (at m.table place).remaining ≡ cancel_answer m subscriber n
   cancel_answered =
-      ap Ok (ap (λ (x : Intent). x.remaining) same ∙ sym (left_found n ps (at ps (position n ps)) apart (found_here n ps here)))
-      ∙ sym (checked_ok (cancel_checks m subscriber n) (position n ps) place (left_of n ps) (sym passed))
+      ap Ok (ap (λ (x : Intent). x.remaining) same ∙ sym (left_found n ps (at ps (place_in n ps)) apart (found_here n ps here)))
+      ∙ sym (checked_ok (cancel_checks m subscriber n) (place_in n ps) place (left_of n ps) (sym passed))
 
   pub cancel_after : (count' : ℕ) (table' : List Intent) → count' ≡ length (keep live (take m.count emptied)) →
       table' ≡ keep live (take m.count emptied) ++ (replicate (m.count - count') blank_intent ++ drop m.count emptied) →
-      record { phase = m.phase; day = m.day; next = m.next; securities = m.securities; count = count'; table = table'; page = m.page } ≡ after rules m (cancel_call subscriber n)
+      record { phase = m.phase; day = m.day; next = m.next; securities = m.securities; count = count'; table = table'; page = m.page } ≡ after rules m (cancel_call r)
   cancel_after count' table' counted closed =
       let inside : place < m.count = omega (arith, place_is, here, many) in
       let rs : List Intent = without n ps in
@@ -97,4 +111,4 @@ module _ (rules : Rules) (m : Memory) (subscriber n place : ℕ) (passed : Ok pl
       ∙ ap (λ (l : List Intent). rs ++ (replicate (m.count - length rs) blank_intent ++ l)) (drop-set-lt m.count m.table place (with_left (at m.table place) 0) inside)
       ∙ laid_out_less m.count m.next m.table rs lawful (omega (arith, keep_short (λ (p : Intent). not (eqb p.number n)) ps, many)) in
       (λ j. record { phase = m.phase; day = m.day; next = m.next; securities = m.securities; count = count_is j; table = table_is j; page = m.page })
-      ∙ sym (after_accepted rules m (cancel_call subscriber n) (position n ps) place (sym passed))
+      ∙ sym (after_accepted rules m (cancel_call r) (place_in n ps) place (sym passed))

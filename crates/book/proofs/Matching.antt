@@ -136,7 +136,7 @@ module _ (rules : Rules) (m : Memory) (i : Incoming) (lawful : lawful_table m.co
 
   -- what a turn in place and a closing up come to
   pub matched : (table table' : List Intent) (page' : List Slip) (count' : ℕ) (r : Turned) → m.count ≤ length m.page →
-      Handed (turn_under rules o i ps) i.volume ps (take m.count table) m.page page' 0 r → drop m.count table ≡ drop m.count m.table →
+      Handed (turn_under rules o i ps) i.volume ps (take m.count table) m.page page' r → drop m.count table ≡ drop m.count m.table →
       count' ≡ length (keep live (take m.count table)) → table' ≡ keep live (take m.count table) ++ (replicate (m.count - count') blank_intent ++ drop m.count table) →
       Matched rules i m (record { phase = m.phase; day = m.day; next = m.next; securities = m.securities; count = count'; table = table'; page = page' }) r
   matched table table' page' count' r room handed beyond counted closed =

@@ -107,12 +107,12 @@ alive_set (p ∷ ps) (suc k) w h some = go (live p) (alive_set ps k w (omega ari
     go false ih = ih
 
 -- what is still to come, from where a turn stands, is what the turn gives
-pub record Underway (ahead : Standing → Standing → Bool) (q : Quote) (price mark : ℕ) (i : Incoming) (from : ℕ) (ps : List Intent) (page : List Slip) (volume : ℕ) (fs : List Fill) (left : ℕ) (ps' : List Intent) (page' : List Slip) (count : ℕ) : Type 0 where
+pub record Underway (ahead : Standing → Standing → Bool) (q : Quote) (price mark : ℕ) (i : Incoming) (ps : List Intent) (page : List Slip) (volume : ℕ) (fs : List Fill) (left : ℕ) (ps' : List Intent) (page' : List Slip) (count : ℕ) : Type 0 where
   pub slips : count + length (turn_of ahead q price mark i left ps') ≡ length fs
   pub rest : left - volume_of (turn_of ahead q price mark i left ps') ≡ volume - volume_of fs
   pub few : count ≤ alive ps
   pub emptied_each : count + alive ps' + min left 1 ≤ alive ps + min volume 1
-  pub written_on : written_from page' (from + count) (turn_of ahead q price mark i left ps') ≡ written_from page from fs
+  pub written_on : written_from page' count (turn_of ahead q price mark i left ps') ≡ written_from page 0 fs
   pub lessened : map (relieved (turn_of ahead q price mark i left ps')) ps' ≡ map (relieved fs) ps
   pub apart : Distinct ps' (length ps')
 
@@ -120,9 +120,9 @@ pub ready_live : (q : Quote) (price : ℕ) (i : Incoming) (p : Intent) → ready
 unfolding ready
 ready_live q price i p h = ltb-true 0 p.remaining (and_parts (ltb 0 p.remaining) _ h).0
 
-module _ {ahead : Standing → Standing → Bool} {q : Quote} {price mark : ℕ} {i : Incoming} {from : ℕ} {ps : List Intent} {page : List Slip} {volume : ℕ} {fs : List Fill}
-    {left : ℕ} {ps' : List Intent} {page' : List Slip} {count : ℕ} (u : Underway ahead q price mark i from ps page volume fs left ps' page' count) where
-  pub underway_end : turn_of ahead q price mark i left ps' ≡ [] → Handed fs volume ps ps' page page' from (record { slips = count; left = left })
+module _ {ahead : Standing → Standing → Bool} {q : Quote} {price mark : ℕ} {i : Incoming} {ps : List Intent} {page : List Slip} {volume : ℕ} {fs : List Fill}
+    {left : ℕ} {ps' : List Intent} {page' : List Slip} {count : ℕ} (u : Underway ahead q price mark i ps page volume fs left ps' page' count) where
+  pub underway_end : turn_of ahead q price mark i left ps' ≡ [] → Handed fs volume ps ps' page page' (record { slips = count; left = left })
   underway_end e =
       let none : length (turn_of ahead q price mark i left ps') ≡ 0 = ap length e in
       let nothing : volume_of (turn_of ahead q price mark i left ps') ≡ 0 = ap volume_of e in
@@ -131,14 +131,14 @@ module _ {ahead : Standing → Standing → Bool} {q : Quote} {price mark : ℕ}
         rest = omega (arith, u.rest);
         few = u.few;
         emptied = u.emptied_each;
-        pages = sym (ap (written_from page' (from + count)) e) ∙ u.written_on;
+        pages = sym (ap (written_from page' count) e) ∙ u.written_on;
         table = sym (ap (λ (gs : List Fill). map (relieved gs) ps') e ∙ relieved_none ps') ∙ u.lessened;
       }
 
-  pub underway_spent : left ≤ 0 → Handed fs volume ps ps' page page' from (record { slips = count; left = left })
+  pub underway_spent : left ≤ 0 → Handed fs volume ps ps' page page' (record { slips = count; left = left })
   underway_spent h = underway_end (turn_spent ahead q price mark i left ps' (omega arith))
 
-  pub underway_none : Nowhere (ready q price i) ps' (length ps') → Handed fs volume ps ps' page page' from (record { slips = count; left = left })
+  pub underway_none : Nowhere (ready q price i) ps' (length ps') → Handed fs volume ps ps' page page' (record { slips = count; left = left })
   underway_none h = underway_end (turn_none ahead q price mark i left ps' h)
 
   module _ (sided : Sided ahead) (k : ℕ) (some : 0 < left) (best : Foremost ahead (ready q price i) ps' (length ps') k) (v : ℕ) (is : v ≡ min (at ps' k).remaining left) where
@@ -150,25 +150,24 @@ module _ {ahead : Standing → Standing → Bool} {q : Quote} {price mark : ℕ}
     pub underway_room : count + 1 ≤ alive ps
     underway_room = omega (arith, u.emptied_each, alive_set ps' k 0 best.within (ready_live q price i (at ps' k) best.ready_there))
 
-    pub underway_more : Underway ahead q price mark i from ps page volume fs (left - v) (set ps' k (less (at ps' k) v)) (set page' (from + count) (Filled (slip ahead q price mark i (at ps' k) v))) (count + 1)
+    pub underway_more : Underway ahead q price mark i ps page volume fs (left - v) (set ps' k (less (at ps' k) v)) (set page' count (Filled (slip ahead q price mark i (at ps' k) v))) (count + 1)
     underway_more =
         let f : Fill = slip ahead q price mark i (at ps' k) v in
         let rest : List Fill = turn_of ahead q price mark i (left - v) (set ps' k (less (at ps' k) v)) in
         let long : length (set ps' k (less (at ps' k) v)) ≡ length ps' = length-set ps' k (less (at ps' k) v) in
         let taken = alive_set ps' k ((at ps' k).remaining - v) best.within (ready_live q price i (at ps' k) best.ready_there) in
         let some_left : 0 < (at ps' k).remaining = ready_live q price i (at ps' k) best.ready_there in
-        let on : from + (count + 1) ≡ from + count + 1 = omega arith in
         record {
           slips = omega (arith, u.slips, ap length underway_next);
           rest = omega (arith, u.rest, ap volume_of underway_next);
           few = underway_room;
           emptied_each = omega (arith, u.emptied_each, taken);
-          written_on = ap (λ (n : ℕ). written_from (set page' (from + count) (Filled f)) n rest) on ∙ sym (ap (written_from page' (from + count)) underway_next) ∙ u.written_on;
+          written_on = sym (ap (written_from page' count) underway_next) ∙ u.written_on;
           lessened = sym (relieved_more ps' k v f rest best.within u.apart refl refl) ∙ sym (ap (λ (gs : List Fill). map (relieved gs) ps') underway_next) ∙ u.lessened;
           apart = rw long (distinct_set ps' (length ps') k ((at ps' k).remaining - v) best.within u.apart);
         }
 
 -- nothing is handed out
-pub handed_none : (volume : ℕ) (ps : List Intent) (page : List Slip) (from : ℕ) → Handed [] volume ps ps page page from (record { slips = 0; left = volume })
-handed_none volume ps page from =
+pub handed_none : (volume : ℕ) (ps : List Intent) (page : List Slip) → Handed [] volume ps ps page page (record { slips = 0; left = volume })
+handed_none volume ps page =
     record { counted = refl; rest = omega arith; pages = refl; table = sym (relieved_none ps); few = omega arith; emptied = omega arith }

@@ -2,7 +2,6 @@
 use Rattle.std.specs.Prelude.{◌≡◌, ℕ, ◌+◌, ◌-◌, ◌<◌, ◌≤◌, min, Bool, true, false, ◌&&◌, List, [], ◌∷◌, map, length, Some, None, Option, ◌≢◌, slice_set}
 use Rattle.rules.specs.declared.incoming.Incoming.{Incoming}
 use Rattle.rules.specs.declared.intents.Intent.{Intent}
-use Rattle.rules.specs.declared.intents.Side.{Side}
 use Rattle.rules.specs.declared.intents.Standing.{Standing}
 use Rattle.rules.specs.declared.quotes.Quote.{Quote}
 use Rattle.rules.specs.declared.slips.Fill.{Fill}
@@ -16,9 +15,6 @@ use Rattle.law.specs.Models.{queue, serve}
 use Rattle.law.specs.Turns.{Rules, given, active_number}
 use Rattle.ledger.specs.Places.{at, live}
 use Rattle.book.specs.declared.turns.Turned.{Turned}
-
-abbrev pub rules_by : (ℕ → Standing → Standing → Bool) → (Quote → Side → ℕ) → ℕ → Rules
-rules_by ahead price mark = record { ahead = ahead; price = price; mark = mark }
 
 -- something is left of it, and it is eligible
 unfoldable pub ready : Quote → ℕ → Incoming → Intent → Bool
@@ -60,11 +56,11 @@ written_from page place (f ∷ fs) = written_from (slice_set page place (Filled 
 abbrev pub alive : List Intent → ℕ
 alive ps = length (keep live ps)
 
--- fs are handed out: a slip for each from a place of the page on, and each intent has what they leave of it
-pub record Handed (fs : List Fill) (volume : ℕ) (ps ps' : List Intent) (page page' : List Slip) (from : ℕ) (r : Turned) : Type 0 where
+-- fs are handed out: a slip for each from the page's first place on, and each intent has what they leave of it
+pub record Handed (fs : List Fill) (volume : ℕ) (ps ps' : List Intent) (page page' : List Slip) (r : Turned) : Type 0 where
   pub counted : r.slips ≡ length fs
   pub rest : r.left ≡ volume - volume_of fs
-  pub pages : page' ≡ written_from page from fs
+  pub pages : page' ≡ written_from page 0 fs
   pub table : ps' ≡ map (relieved fs) ps
   -- each slip empties an intent, or uses up the volume
   pub few : r.slips ≤ alive ps

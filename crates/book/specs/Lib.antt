@@ -1,3 +1,2 @@
-pub mod ListCall
 pub mod InPlace
 pub mod Matches

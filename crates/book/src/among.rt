@@ -1,12 +1,13 @@
 //! A turn and a closing up among the first places of a longer table.
 ghost use Rattle.std.specs.Prelude.{◌≡◌, ◌+◌, ◌-◌, ◌<◌, ◌≤◌, ◌++◌, length, take, drop, replicate, if◌then◌else◌, nat_lt, slice_set};
-ghost use Rattle.book.specs.InPlace.{rules_by, Distinct, turn_under, alive, Handed};
+ghost use Rattle.book.specs.InPlace.{Distinct, turn_under, alive, Handed};
 ghost use Rattle.law.specs.Accounts.{with_left};
 ghost use Rattle.law.specs.Lists.{keep};
 ghost use Rattle.ledger.specs.Places.{live};
 ghost use Rattle.rules.specs.Blanks.{blank_intent};
 
 use crate::turns::{Turned, turn};
+use law::rule_sets::{Meaning, RuleSet};
 use ledger::tables::close_up;
 use rules::incoming::Incoming;
 use rules::intents::Intent;
@@ -17,9 +18,8 @@ use rules::slips::Slip;
 
 /// The turn of an incoming party against the first `count` intents.
 pub(crate) fn turn_among<P: Priority, R: PriceRule>(
-    priority: &P,
-    rule: &R,
-    quote: &Option<Quote>,
+    rules: &RuleSet<P, R>,
+    quote: Option<Quote>,
     incoming: &Incoming,
     table: &mut [Intent],
     count: usize,
@@ -28,18 +28,10 @@ pub(crate) fn turn_among<P: Priority, R: PriceRule>(
     requires within { count ≤ length table.old }
     requires apart { Distinct table.old count }
     requires room { alive (take count table.old) ≤ length page.old }
-    ensures handed { Handed (turn_under (rules_by (P.Priority.ahead priority.now) (R.PriceRule.price rule.now) R.PriceRule.mark) quote.now incoming.now (take count table.old)) incoming.now.volume (take count table.old) (take count table.new) page.old page.new 0 result }
+    ensures handed { Handed (turn_under (⟦<RuleSet<P, R> as Meaning>⟧.rules rules.now) quote incoming.now (take count table.old)) incoming.now.volume (take count table.old) (take count table.new) page.old page.new result }
     ensures beyond { drop count table.new ≡ drop count table.old }
 {
-    turn(
-        priority,
-        rule,
-        quote,
-        incoming,
-        &mut table[0..count],
-        page,
-        0,
-    )
+    turn(rules, quote, incoming, &mut table[0..count], page)
 }
 
 /// Closes up the first `count` places, and answers how many intents have something left.

@@ -1,5 +1,4 @@
 ghost use Rattle.std.specs.Prelude.{◌≡◌, ◌≤◌, true, [], length, take, IfOk};
-ghost use Rattle.book.specs.InPlace.{rules_by};
 ghost use Rattle.book.specs.Matches.{ComesNew, Matched};
 ghost use Rattle.law.specs.Memories.{account, lawful_table, laid_out};
 ghost use Rattle.law.specs.Accounts.{new_intent};
@@ -13,7 +12,8 @@ ghost use Rattle.rules.specs.Incoming.{intent_incoming, order_incoming};
 use crate::among::{close_among, rest_behind, turn_among};
 use crate::turns::Turned;
 use law::answers::{Entered, Ordered};
-use law::calls::Terms;
+use law::calls::{Reference, Terms};
+use law::rule_sets::{Meaning, RuleSet};
 use ledger::ledgers::Ledger;
 use ledger::tables::{blank, capacity_of};
 use rules::incoming::Incoming;
@@ -30,24 +30,20 @@ mod tests;
 /// A book that matches by a priority and a price rule.
 #[derive(Drop)]
 pub struct Book<P: Priority, R: PriceRule> {
-    priority: P,
-    rule: R,
+    rules: RuleSet<P, R>,
     ledger: Ledger,
 }
 
 impl<P: Priority, R: PriceRule> Book<P, R> {
     /// A new book over a lent table, whose places it blanks up to its capacity.
     pub fn open(priority: P, rule: R, table: &mut [Intent]) -> Book<P, R>
-        ensures priority { result.priority ≡ priority }
-        ensures rule { result.rule ≡ rule }
-        ensures book { result.ledger ≡ new_ledger }
+        ensures book { result ≡ record { rules = record { priority = priority; rule = rule }; ledger = new_ledger } }
         ensures table { table.new ≡ laid_out [] table.old }
     {
         let capacity = capacity_of(table);
         blank(&mut table[0..capacity]);
         Book {
-            priority,
-            rule,
+            rules: RuleSet { priority, rule },
             ledger: Ledger::open(),
         }
     }
@@ -55,9 +51,7 @@ impl<P: Priority, R: PriceRule> Book<P, R> {
     /// Lists a security: it is open then and has no quote. It needs neither table nor page.
     pub fn list(&mut self, security: u32) -> Result<(), Refusal>
         ensures answer { result ≡ checked (list_checks (memory self.old.ledger [] []) security) tt }
-        ensures book { self.new.ledger ≡ unless_refused (list_checks (memory self.old.ledger [] []) security) (with_listed self.old.ledger security) self.old.ledger }
-        ensures priority { self.new.priority ≡ self.old.priority }
-        ensures rule { self.new.rule ≡ self.old.rule }
+        ensures book { self.new ≡ record self.old { ledger = unless_refused (list_checks (memory self.old.ledger [] []) security) (with_listed self.old.ledger security) self.old.ledger } }
     {
         self.ledger.list(security)
     }
@@ -69,19 +63,17 @@ impl<P: Priority, R: PriceRule> Book<P, R> {
         page: &mut [Slip],
         terms: &Terms,
     ) -> Result<Entered, Refusal>
-        ensures answer { result ≡ enter_answer (rules_by (P.Priority.ahead self.old.priority) (R.PriceRule.price self.old.rule) R.PriceRule.mark) (memory self.old.ledger table.old page.old) terms.now }
-        ensures book { self.new.ledger ≡ ledger_of (after (rules_by (P.Priority.ahead self.old.priority) (R.PriceRule.price self.old.rule) R.PriceRule.mark) (memory self.old.ledger table.old page.old) (enter_call terms.now)) }
-        ensures table { table.new ≡ (after (rules_by (P.Priority.ahead self.old.priority) (R.PriceRule.price self.old.rule) R.PriceRule.mark) (memory self.old.ledger table.old page.old) (enter_call terms.now)).table }
-        ensures page { page.new ≡ (after (rules_by (P.Priority.ahead self.old.priority) (R.PriceRule.price self.old.rule) R.PriceRule.mark) (memory self.old.ledger table.old page.old) (enter_call terms.now)).page }
+        ensures answer { result ≡ enter_answer (⟦<RuleSet<P, R> as Meaning>⟧.rules self.old.rules) (memory self.old.ledger table.old page.old) terms.now }
+        ensures book { self.new ≡ record self.old { ledger = ledger_of (after (⟦<RuleSet<P, R> as Meaning>⟧.rules self.old.rules) (memory self.old.ledger table.old page.old) (enter_call terms.now)) } }
+        ensures table { table.new ≡ (after (⟦<RuleSet<P, R> as Meaning>⟧.rules self.old.rules) (memory self.old.ledger table.old page.old) (enter_call terms.now)).table }
+        ensures page { page.new ≡ (after (⟦<RuleSet<P, R> as Meaning>⟧.rules self.old.rules) (memory self.old.ledger table.old page.old) (enter_call terms.now)).page }
         ensures fits { IfOk result (λ x. x.slips ≤ length page.old) }
-        ensures priority { self.new.priority ≡ self.old.priority }
-        ensures rule { self.new.rule ≡ self.old.rule }
-        ensures turn { IfOk result (λ x. LawfulQuotes self.old.ledger.securities → OnlyTurn (rules_by (P.Priority.ahead self.old.priority) (R.PriceRule.price self.old.rule) R.PriceRule.mark) (account (memory self.old.ledger table.old page.old)) (intent_incoming (new_intent self.old.ledger.next terms.now)) (fills (take x.slips page.new))) }
+        ensures turn { IfOk result (λ x. LawfulQuotes self.old.ledger.securities → OnlyTurn (⟦<RuleSet<P, R> as Meaning>⟧.rules self.old.rules) (account (memory self.old.ledger table.old page.old)) (intent_incoming (new_intent self.old.ledger.next terms.now)) (fills (take x.slips page.new))) }
     {
         self.ledger.check_enter(table, page, terms)?;
         let number = self.ledger.next;
         let intent = terms.intent(number);
-        let turned = self.match_incoming(table, page, &intent.incoming());
+        let turned = self.match_incoming(table, page, &Incoming::from(&intent));
         self.ledger.next = number + 1;
         self.ledger.count = rest_behind(table, self.ledger.count, &intent, turned.left);
         Ok(Entered {
@@ -92,19 +84,12 @@ impl<P: Priority, R: PriceRule> Book<P, R> {
     }
 
     /// Withdraws what remains of a subscriber's resting intent, and answers how much that was.
-    pub fn cancel(
-        &mut self,
-        table: &mut [Intent],
-        subscriber: u32,
-        number: u32,
-    ) -> Result<u32, Refusal>
-        ensures answer { result ≡ cancel_answer (memory self.old.ledger table.old []) subscriber number }
-        ensures book { self.new.ledger ≡ ledger_of (after (rules_by (P.Priority.ahead self.old.priority) (R.PriceRule.price self.old.rule) R.PriceRule.mark) (memory self.old.ledger table.old []) (cancel_call subscriber number)) }
-        ensures table { table.new ≡ (after (rules_by (P.Priority.ahead self.old.priority) (R.PriceRule.price self.old.rule) R.PriceRule.mark) (memory self.old.ledger table.old []) (cancel_call subscriber number)).table }
-        ensures priority { self.new.priority ≡ self.old.priority }
-        ensures rule { self.new.rule ≡ self.old.rule }
+    pub fn cancel(&mut self, table: &mut [Intent], reference: &Reference) -> Result<u32, Refusal>
+        ensures answer { result ≡ cancel_answer (memory self.old.ledger table.old []) reference.now.subscriber reference.now.number }
+        ensures book { self.new ≡ record self.old { ledger = ledger_of (after (⟦<RuleSet<P, R> as Meaning>⟧.rules self.old.rules) (memory self.old.ledger table.old []) (cancel_call reference.now)) } }
+        ensures table { table.new ≡ (after (⟦<RuleSet<P, R> as Meaning>⟧.rules self.old.rules) (memory self.old.ledger table.old []) (cancel_call reference.now)).table }
     {
-        let place = self.ledger.check_cancel(table, subscriber, number)?;
+        let place = self.ledger.check_cancel(table, reference)?;
         let withdrawn = table[place].remaining;
         table[place].remaining = 0;
         self.ledger.count = close_among(table, self.ledger.count);
@@ -118,17 +103,15 @@ impl<P: Priority, R: PriceRule> Book<P, R> {
         page: &mut [Slip],
         order: &Order,
     ) -> Result<Ordered, Refusal>
-        ensures answer { result ≡ order_answer (rules_by (P.Priority.ahead self.old.priority) (R.PriceRule.price self.old.rule) R.PriceRule.mark) (memory self.old.ledger table.old page.old) order.now }
-        ensures book { self.new.ledger ≡ ledger_of (after (rules_by (P.Priority.ahead self.old.priority) (R.PriceRule.price self.old.rule) R.PriceRule.mark) (memory self.old.ledger table.old page.old) (order_call order.now)) }
-        ensures table { table.new ≡ (after (rules_by (P.Priority.ahead self.old.priority) (R.PriceRule.price self.old.rule) R.PriceRule.mark) (memory self.old.ledger table.old page.old) (order_call order.now)).table }
-        ensures page { page.new ≡ (after (rules_by (P.Priority.ahead self.old.priority) (R.PriceRule.price self.old.rule) R.PriceRule.mark) (memory self.old.ledger table.old page.old) (order_call order.now)).page }
+        ensures answer { result ≡ order_answer (⟦<RuleSet<P, R> as Meaning>⟧.rules self.old.rules) (memory self.old.ledger table.old page.old) order.now }
+        ensures book { self.new ≡ record self.old { ledger = ledger_of (after (⟦<RuleSet<P, R> as Meaning>⟧.rules self.old.rules) (memory self.old.ledger table.old page.old) (order_call order.now)) } }
+        ensures table { table.new ≡ (after (⟦<RuleSet<P, R> as Meaning>⟧.rules self.old.rules) (memory self.old.ledger table.old page.old) (order_call order.now)).table }
+        ensures page { page.new ≡ (after (⟦<RuleSet<P, R> as Meaning>⟧.rules self.old.rules) (memory self.old.ledger table.old page.old) (order_call order.now)).page }
         ensures fits { IfOk result (λ x. x.slips ≤ length page.old) }
-        ensures priority { self.new.priority ≡ self.old.priority }
-        ensures rule { self.new.rule ≡ self.old.rule }
-        ensures turn { IfOk result (λ x. LawfulQuotes self.old.ledger.securities → OnlyTurn (rules_by (P.Priority.ahead self.old.priority) (R.PriceRule.price self.old.rule) R.PriceRule.mark) (account (memory self.old.ledger table.old page.old)) (order_incoming order.now) (fills (take x.slips page.new))) }
+        ensures turn { IfOk result (λ x. LawfulQuotes self.old.ledger.securities → OnlyTurn (⟦<RuleSet<P, R> as Meaning>⟧.rules self.old.rules) (account (memory self.old.ledger table.old page.old)) (order_incoming order.now) (fills (take x.slips page.new))) }
     {
         self.ledger.check_order(table, page, order)?;
-        let turned = self.match_incoming(table, page, &order.incoming());
+        let turned = self.match_incoming(table, page, &Incoming::from(order));
         Ok(Ordered {
             residual: turned.left,
             slips: turned.slips,
@@ -145,21 +128,12 @@ impl<P: Priority, R: PriceRule> Book<P, R> {
         requires lawful { lawful_table self.old.ledger.count self.old.ledger.next table.old ≡ true }
         requires room { self.old.ledger.count ≤ length page.old }
         requires new { ComesNew incoming.now.number self.old.ledger.next }
-        ensures matched { Matched (rules_by (P.Priority.ahead self.old.priority) (R.PriceRule.price self.old.rule) R.PriceRule.mark) incoming.now (memory self.old.ledger table.old page.old) (memory self.new.ledger table.new page.new) result }
-        ensures priority { self.new.priority ≡ self.old.priority }
-        ensures rule { self.new.rule ≡ self.old.rule }
+        ensures matched { Matched (⟦<RuleSet<P, R> as Meaning>⟧.rules self.old.rules) incoming.now (memory self.old.ledger table.old page.old) (memory self.new.ledger table.new page.new) result }
+        ensures rules { self.new.rules ≡ self.old.rules }
     {
         let quote = self.ledger.quote_in_force(incoming.security);
         let count = self.ledger.count;
-        let turned = turn_among(
-            &self.priority,
-            &self.rule,
-            &quote,
-            incoming,
-            table,
-            count,
-            page,
-        );
+        let turned = turn_among(&self.rules, quote, incoming, table, count, page);
         self.ledger.count = close_among(table, count);
         turned
     }

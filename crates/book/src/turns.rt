@@ -1,11 +1,12 @@
 //! One turn, over intents in place.
-ghost use Rattle.std.specs.Prelude.{◌≡◌, ◌+◌, ◌≤◌, length, MatchOption};
-ghost use Rattle.book.specs.InPlace.{rules_by, ready, Nowhere, Foremost, Distinct, turn_of, turn_under, alive, Handed};
+ghost use Rattle.std.specs.Prelude.{◌≡◌, ◌≤◌, length, MatchOption};
+ghost use Rattle.book.specs.InPlace.{ready, Nowhere, Foremost, Distinct, turn_of, turn_under, alive, Handed};
 ghost use Rattle.law.specs.Turns.{active_number};
 
-use rules::eligibility::is_eligible;
+use law::rule_sets::{Meaning, RuleSet};
+use rules::eligibility::Seeker;
 use rules::incoming::Incoming;
-use rules::intents::Intent;
+use rules::intents::{Intent, Standing};
 use rules::prices::PriceRule;
 use rules::priorities::Priority;
 use rules::quotes::Quote;
@@ -24,40 +25,31 @@ pub(crate) struct Turned {
 fn active_number(number: Option<u32>) -> u32
     ensures { result ≡ active_number number }
 {
-    match number {
-        Some(number) => number,
-        None => 0,
-    }
+    number.unwrap_or(0)
 }
 
 /// Whether the intent is eligible and has something left.
-fn is_ready(quote: &Quote, price: u64, incoming: &Incoming, intent: &Intent) -> bool
-    ensures { result ≡ ready quote.now price incoming.now intent.now }
+fn is_ready(seeker: &Seeker, intent: &Intent) -> bool
+    ensures { result ≡ ready seeker.now.quote seeker.now.price seeker.now.incoming intent.now }
 {
-    0 < intent.remaining && is_eligible(quote, price, incoming, intent)
+    0 < intent.remaining && seeker.may_meet(intent)
 }
 
 /// The place of the ready intent that no other ready one is ahead of.
-fn foremost<P: Priority>(
-    priority: &P,
-    incoming: &Incoming,
-    quote: &Quote,
-    price: u64,
-    intents: &[Intent],
-) -> Option<usize>
+fn foremost<P: Priority>(priority: &P, seeker: &Seeker, intents: &[Intent]) -> Option<usize>
     requires { Distinct intents.now (length intents.now) }
-    ensures { MatchOption result (Nowhere (ready quote.now price incoming.now) intents.now (length intents.now)) (λ i. Foremost (P.Priority.ahead priority.now incoming.now.subscriber) (ready quote.now price incoming.now) intents.now (length intents.now) i) }
+    ensures { MatchOption result (Nowhere (ready seeker.now.quote seeker.now.price seeker.now.incoming) intents.now (length intents.now)) (λ i. Foremost (P.Priority.ahead priority.now seeker.now.incoming.subscriber) (ready seeker.now.quote seeker.now.price seeker.now.incoming) intents.now (length intents.now) i) }
 {
     let mut best: Option<usize> = None;
-    for i in 0..intents.len() {
-        if is_ready(quote, price, incoming, &intents[i]) {
+    for (i, intent) in intents.iter().enumerate() {
+        if is_ready(seeker, intent) {
             match best {
                 None => best = Some(i),
                 Some(b) => {
                     if priority.is_ahead(
-                        incoming.subscriber,
-                        &intents[i].standing(),
-                        &intents[b].standing(),
+                        seeker.incoming.subscriber,
+                        &Standing::from(intent),
+                        &Standing::from(&intents[b]),
                     ) {
                         best = Some(i);
                     }
@@ -68,35 +60,32 @@ fn foremost<P: Priority>(
     best
 }
 
-/// Hands the incoming volume to the ready intents, foremost first, and writes a slip for each handing, from a place of the
-/// page on. An emptied intent keeps its place.
+/// Hands the incoming volume to the ready intents, foremost first, and writes a slip for each handing, from the page's first
+/// place on. An emptied intent keeps its place.
 fn hand_out<P: Priority>(
     priority: &P,
-    incoming: &Incoming,
-    quote: &Quote,
-    price: u64,
+    seeker: &Seeker,
     mark: char,
     intents: &mut [Intent],
     page: &mut [Slip],
-    from: usize,
 ) -> Turned
     requires apart { Distinct intents.old (length intents.old) }
-    requires room { from + alive intents.old ≤ length page.old }
-    ensures { Handed (turn_of (P.Priority.ahead priority.now incoming.now.subscriber) quote.now price mark incoming.now incoming.now.volume intents.old) incoming.now.volume intents.old intents.new page.old page.new from result }
+    requires room { alive intents.old ≤ length page.old }
+    ensures { Handed (turn_of (P.Priority.ahead priority.now seeker.now.incoming.subscriber) seeker.now.quote seeker.now.price mark seeker.now.incoming seeker.now.incoming.volume intents.old) seeker.now.incoming.volume intents.old intents.new page.old page.new result }
 {
-    let active = active_number(incoming.number);
-    let mut left = incoming.volume;
+    let active = active_number(seeker.incoming.number);
+    let mut left = seeker.incoming.volume;
     let mut slips: usize = 0;
     while left > 0 {
-        let Some(i) = foremost(priority, incoming, quote, price, intents) else {
+        let Some(i) = foremost(priority, seeker, intents) else {
             break;
         };
         let volume = intents[i].remaining.min(left);
-        page[from + slips] = Slip::Filled(Fill {
+        page[slips] = Slip::Filled(Fill {
             active,
             passive: intents[i].number,
             volume,
-            price,
+            price: seeker.price,
             mark,
         });
         intents[i].remaining -= volume;
@@ -108,23 +97,20 @@ fn hand_out<P: Priority>(
 
 /// The turn of an incoming party under the quote in force. Where there is none, nobody is eligible.
 pub(crate) fn turn<P: Priority, R: PriceRule>(
-    priority: &P,
-    rule: &R,
-    quote: &Option<Quote>,
+    rules: &RuleSet<P, R>,
+    quote: Option<Quote>,
     incoming: &Incoming,
     intents: &mut [Intent],
     page: &mut [Slip],
-    from: usize,
 ) -> Turned
     requires apart { Distinct intents.old (length intents.old) }
-    requires room { from + alive intents.old ≤ length page.old }
-    ensures { Handed (turn_under (rules_by (P.Priority.ahead priority.now) (R.PriceRule.price rule.now) R.PriceRule.mark) quote.now incoming.now intents.old) incoming.now.volume intents.old intents.new page.old page.new from result }
+    requires room { alive intents.old ≤ length page.old }
+    ensures { Handed (turn_under (⟦<RuleSet<P, R> as Meaning>⟧.rules rules.now) quote incoming.now intents.old) incoming.now.volume intents.old intents.new page.old page.new result }
 {
     match quote {
         Some(quote) => {
-            let price = rule.price_of(quote, incoming.side);
-            let mark = R::mark_of();
-            hand_out(priority, incoming, quote, price, mark, intents, page, from)
+            let seeker = Seeker::new(&rules.rule, quote, *incoming);
+            hand_out(&rules.priority, &seeker, R::MARK, intents, page)
         }
         None => Turned {
             slips: 0,

@@ -22,6 +22,9 @@ pub record Rules : Type 0 where
   pub price : Quote → Side → ℕ
   pub mark : ℕ
 
+abbrev pub rules_by : (ℕ → Standing → Standing → Bool) → (Quote → Side → ℕ) → ℕ → Rules
+rules_by ahead price mark = record { ahead = ahead; price = price; mark = mark }
+
 -- the laws of priorities and price rules
 pub record LawfulRules (rules : Rules) : Type 0 where
   pub total : (s : ℕ) (a b : Standing) → (a.number ≢ b.number) → rules.ahead s a b ≡ not (rules.ahead s b a)

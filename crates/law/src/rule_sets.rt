@@ -1,5 +1,5 @@
 //! What a book matches by.
-ghost use Rattle.law.specs.Turns.{Rules};
+ghost use Rattle.law.specs.Turns.{Rules, rules_by};
 
 use rules::prices::PriceRule;
 use rules::priorities::Priority;
@@ -17,5 +17,5 @@ pub trait Meaning {
 }
 
 impl<P: Priority, R: PriceRule> Meaning for RuleSet<P, R> {
-    ghost rules = { λ set. record { ahead = P.Priority.ahead set.priority; price = R.PriceRule.price set.rule; mark = R.PriceRule.MARK } };
+    ghost rules = { λ set. rules_by (P.Priority.ahead set.priority) (R.PriceRule.price set.rule) R.PriceRule.MARK };
 }

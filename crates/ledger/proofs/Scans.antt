@@ -1,5 +1,5 @@
 -- What a scan of the table finds.
-use Rattle.std.proofs.Common.{◌≡◌, ℕ, ◌+◌, ◌-◌, ◌≤◌, Bool, cond, ◌&&◌, eqb, ltb, List, [], ◌∷◌, length, take, drop, Some, None, Option, slice_get, sym, refl, subst, ap, ◌∙◌, arith}
+use Rattle.std.proofs.Common.{◌≡◌, ℕ, ◌+◌, ◌-◌, ◌<◌, ◌≤◌, Bool, cond, ◌&&◌, eqb, ltb, List, [], ◌∷◌, length, take, drop, Some, None, Option, slice_get, sym, refl, subst, ap, ◌∙◌, arith}
 use Rattle.std.specs.List.{find as find_first, position, position_or_len}
 use Rattle.std.proofs.lemmas.List.Folds.{find_at}
 use Rattle.std.proofs.lemmas.List.{drop-take}
@@ -31,6 +31,12 @@ find_numbered n (p ∷ ps) = ap (cond (eqb p.number n) (Some p)) (find_numbered 
 found_at : (n : ℕ) (ps : List Intent) → find n ps ≡ slice_get ps (position_or_len (has_number n) ps)
 found_at n ps = find_numbered n ps ∙ find_at (has_number n) ps
 
+pub found_here : (n : ℕ) (ps : List Intent) → position_or_len (has_number n) ps < length ps → find n ps ≡ Some (at ps (position_or_len (has_number n) ps))
+found_here n ps h = found_at n ps ∙ slice_get-get_or ps (position_or_len (has_number n) ps) blank_intent h
+
+pub found_nowhere : (n : ℕ) (ps : List Intent) → length ps ≤ position_or_len (has_number n) ps → find n ps ≡ None
+found_nowhere n ps h = found_at n ps ∙ slice_get_past ps (position_or_len (has_number n) ps) h
+
 -- what is found, by the place where it is
 abbrev pub Located : ℕ → List Intent → Option ℕ → Type 0
 Located n ps None = find n ps ≡ None
@@ -38,8 +44,6 @@ Located n ps (Some k) = (position_or_len (has_number n) ps ≡ k) × (find n ps 
 
 pub located : (n : ℕ) (ps : List Intent) (o : Option ℕ) → o ≡ position (has_number n) ps → Located n ps o
 located n ps o e =
+    let k : ℕ = position_or_len (has_number n) ps in
     subst (Located n ps) (sym e)
-    (cond_both (ltb k (length ps)) (Some k) None (Located n ps) (λ t. (refl, found_at n ps ∙ slice_get-get_or ps k blank_intent (ltb-true k (length ps) t))) (λ f. found_at n ps ∙ slice_get_past ps k (ltb-false k (length ps) f)))
-  where
-    k : ℕ
-    k = position_or_len (has_number n) ps
+    (cond_both (ltb k (length ps)) (Some k) None (Located n ps) (λ t. (refl, found_here n ps (ltb-true k (length ps) t))) (λ f. found_nowhere n ps (ltb-false k (length ps) f)))

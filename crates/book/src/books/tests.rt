@@ -1,8 +1,9 @@
 //! Turns driven through the book's calls. No call sets a quote or the phase yet, so a book is made ready here, in its own
 //! crate.
 use crate::books::Book;
-use law::calls::Terms;
+use law::calls::{Reference, Terms};
 use rules::intents::{Intent, Side};
+use rules::minimums::Minimums;
 use rules::orders::Order;
 use rules::phases::Phase;
 use rules::prices::PriceRule;
@@ -13,7 +14,7 @@ use rules::priorities::time::Time;
 use rules::quotes::Quote;
 use rules::refusals::Refusal;
 use rules::securities::{Security, State};
-use rules::slips::Slip;
+use rules::slips::{Fill, Slip};
 use std::test::Fail;
 
 const WIDE: Quote = Quote {
@@ -39,8 +40,7 @@ fn ready<P: Priority>(priority: P, table: &mut [Intent]) -> Book<P, StepRule> {
     let mut book = Book::open(priority, STEP, table);
     book.ledger.phase = Phase::Regular;
     book.ledger.securities[0] = Security {
-        listed: true,
-        state: State::Open,
+        state: Some(State::Open),
         quote: Some(WIDE),
     };
     book
@@ -54,10 +54,13 @@ fn terms(subscriber: u32, group: u32, side: Side, volume: u32, limit: u32) -> Te
         side,
         volume,
         limit,
-        min_spread: 0,
-        min_volume: 0,
+        minimums: Minimums::NONE,
         last_day: 1,
     }
+}
+
+fn reference(subscriber: u32, number: u32) -> Reference {
+    Reference { subscriber, number }
 }
 
 fn market_buy(subscriber: u32, volume: u32, jitney: bool) -> Order {
@@ -86,12 +89,15 @@ fn enter_sells<P: Priority>(
     true
 }
 
-/// Active and passive number, volume and price of a fill.
-fn fill(slip: &Slip) -> Option<(u32, u32, u32, u64)> {
-    match slip {
-        Slip::Filled(fill) => Some((fill.active, fill.passive, fill.volume, fill.price)),
-        Slip::Lapsed(_) => None,
-    }
+/// The slip of a fill by the step rule.
+fn filled(active: u32, passive: u32, volume: u32, price: u64) -> Slip {
+    Slip::Filled(Fill {
+        active,
+        passive,
+        volume,
+        price,
+        mark: StepRule::MARK,
+    })
 }
 
 #[test]
@@ -100,21 +106,21 @@ fn house_then_large_then_time(rt: HostRuntime) -> Result<(), Fail> {
     let mut page = [Slip::BLANK; 8];
     let mut book = ready(rule_4_108(), &mut table);
     assert!(rt; enter_sells(&mut book, &mut table, &mut page));
-    let Ok(first) = book.order(&mut table, &mut page, &market_buy(7, 9_000, false)) else {
-        return Err(Fail::new("refused"));
-    };
+    let first = book
+        .order(&mut table, &mut page, &market_buy(7, 9_000, false))
+        .map_err(|_| Fail::new("refused"))?;
     assert_eq!(rt; (first.residual, first.slips), (0, 4));
-    assert_eq!(rt; fill(&page[0]), Some((0, 4, 500, 2018)));
-    assert_eq!(rt; fill(&page[1]), Some((0, 5, 6_000, 2018)));
-    assert_eq!(rt; fill(&page[2]), Some((0, 2, 1_000, 2018)));
-    assert_eq!(rt; fill(&page[3]), Some((0, 3, 1_500, 2018)));
+    assert_eq!(rt; page[0], filled(0, 4, 500, 2018));
+    assert_eq!(rt; page[1], filled(0, 5, 6_000, 2018));
+    assert_eq!(rt; page[2], filled(0, 2, 1_000, 2018));
+    assert_eq!(rt; page[3], filled(0, 3, 1_500, 2018));
     // Number 3 has 3,500 left of 5,000, and stays large.
-    let Ok(second) = book.order(&mut table, &mut page, &market_buy(6, 4_000, false)) else {
-        return Err(Fail::new("refused"));
-    };
+    let second = book
+        .order(&mut table, &mut page, &market_buy(6, 4_000, false))
+        .map_err(|_| Fail::new("refused"))?;
     assert_eq!(rt; (second.residual, second.slips), (0, 2));
-    assert_eq!(rt; fill(&page[0]), Some((0, 3, 3_500, 2018)));
-    assert_eq!(rt; fill(&page[1]), Some((0, 1, 500, 2018)));
+    assert_eq!(rt; page[0], filled(0, 3, 3_500, 2018));
+    assert_eq!(rt; page[1], filled(0, 1, 500, 2018));
     assert_eq!(rt;
         (book.ledger.count, table[0].remaining, table[1].number),
         (1, 4_499, 0)
@@ -128,13 +134,13 @@ fn by_time_alone(rt: HostRuntime) -> Result<(), Fail> {
     let mut page = [Slip::BLANK; 8];
     let mut book = ready(Time, &mut table);
     assert!(rt; enter_sells(&mut book, &mut table, &mut page));
-    let Ok(ordered) = book.order(&mut table, &mut page, &market_buy(7, 9_000, false)) else {
-        return Err(Fail::new("refused"));
-    };
+    let ordered = book
+        .order(&mut table, &mut page, &market_buy(7, 9_000, false))
+        .map_err(|_| Fail::new("refused"))?;
     assert_eq!(rt; (ordered.residual, ordered.slips), (0, 3));
-    assert_eq!(rt; fill(&page[0]), Some((0, 1, 4_999, 2018)));
-    assert_eq!(rt; fill(&page[1]), Some((0, 2, 1_000, 2018)));
-    assert_eq!(rt; fill(&page[2]), Some((0, 3, 3_001, 2018)));
+    assert_eq!(rt; page[0], filled(0, 1, 4_999, 2018));
+    assert_eq!(rt; page[1], filled(0, 2, 1_000, 2018));
+    assert_eq!(rt; page[2], filled(0, 3, 3_001, 2018));
     Ok(())
 }
 
@@ -146,14 +152,14 @@ fn who_came_first_decides_the_price(rt: HostRuntime) -> Result<(), Fail> {
     let sell = terms(9, 1, Side::Sell, 700, 1000);
     let mut book = ready(rule_4_108(), &mut table);
     assert!(rt; book.enter(&mut table, &mut page, &buy).is_ok());
-    let Ok(entered) = book.enter(&mut table, &mut page, &sell) else {
-        return Err(Fail::new("refused"));
-    };
+    let entered = book
+        .enter(&mut table, &mut page, &sell)
+        .map_err(|_| Fail::new("refused"))?;
     assert_eq!(rt;
         (entered.number, entered.resting, entered.slips),
         (2, 200, 1)
     );
-    assert_eq!(rt; fill(&page[0]), Some((2, 1, 500, 2002)));
+    assert_eq!(rt; page[0], filled(2, 1, 500, 2002));
     // With the arrivals exchanged the buy would have to pay 2018, and both rest.
     let mut book = ready(rule_4_108(), &mut table);
     assert!(rt; book.enter(&mut table, &mut page, &sell).is_ok());
@@ -165,12 +171,9 @@ fn who_came_first_decides_the_price(rt: HostRuntime) -> Result<(), Fail> {
     Ok(())
 }
 
-/// The number of a refusal, and 0 where there is none.
-fn refused<T: Drop>(outcome: Result<T, Refusal>) -> u32 {
-    match outcome {
-        Ok(_) => 0,
-        Err(refusal) => refusal.number(),
-    }
+/// The number of a refusal.
+fn refused<T: Drop>(outcome: Result<T, Refusal>) -> Option<u32> {
+    outcome.err().map(|refusal| u32::from(refusal))
 }
 
 #[test]
@@ -180,23 +183,26 @@ fn refusals_of_memory_and_room(rt: HostRuntime) {
     let mut book = ready(rule_4_108(), &mut table);
     let sell = terms(9, 1, Side::Sell, 700, 1000);
     let buy = terms(8, 1, Side::Buy, 500, 1010);
-    assert_eq!(rt; refused(book.enter(&mut table, &mut page, &sell)), 0);
+    assert_eq!(rt; refused(book.enter(&mut table, &mut page, &sell)), None);
     // Full, although the buy would be filled at once.
-    assert_eq!(rt; refused(book.enter(&mut table, &mut page, &buy)), 25);
+    assert_eq!(rt; refused(book.enter(&mut table, &mut page, &buy)), Some(25));
     assert_eq!(rt;
         refused(book.order(&mut table, &mut [], &market_buy(8, 100, false))),
-        2
+        Some(2)
     );
     book.ledger.count = 0;
     assert_eq!(rt;
         refused(book.order(&mut table, &mut page, &market_buy(8, 100, false))),
-        1
+        Some(1)
     );
     book.ledger.count = 1;
     book.ledger.next = 1_000_000_000;
-    assert_eq!(rt; refused(book.cancel(&mut table, 8, 1)), 24);
-    assert_eq!(rt; refused(book.cancel(&mut table, 9, 1)), 0);
-    assert_eq!(rt; refused(book.enter(&mut table, &mut page, &buy)), 26);
+    assert_eq!(rt;
+        refused(book.cancel(&mut table, &reference(8, 1))),
+        Some(24)
+    );
+    assert_eq!(rt; refused(book.cancel(&mut table, &reference(9, 1))), None);
+    assert_eq!(rt; refused(book.enter(&mut table, &mut page, &buy)), Some(26));
 }
 
 #[test]
@@ -205,9 +211,9 @@ fn a_jitney_order_meets_nobody(rt: HostRuntime) -> Result<(), Fail> {
     let mut page = [Slip::BLANK; 8];
     let mut book = ready(rule_4_108(), &mut table);
     assert!(rt; enter_sells(&mut book, &mut table, &mut page));
-    let Ok(ordered) = book.order(&mut table, &mut page, &market_buy(7, 9_000, true)) else {
-        return Err(Fail::new("refused"));
-    };
+    let ordered = book
+        .order(&mut table, &mut page, &market_buy(7, 9_000, true))
+        .map_err(|_| Fail::new("refused"))?;
     assert_eq!(rt; (ordered.residual, ordered.slips), (9_000, 0));
     Ok(())
 }

@@ -1,6 +1,7 @@
 use Rattle.std.proofs.Common.{Option, sym, subst}
 use Rattle.rules.specs.declared.quotes.Quote.{Quote}
-use Rattle.book.specs.InPlace.{rules_by, turn_under, Handed}
+use Rattle.law.specs.Turns.{rules_by}
+use Rattle.book.specs.InPlace.{turn_under, Handed}
 use Rattle.book.proofs.Turning.{handed_none}
 use Rattle.book.proofs.turns.turn.Goals as goal
 
@@ -9,5 +10,5 @@ returns-in-None g c =
     let i = c.args.incoming.now in
     let ps = c.args.intents.now in
     let page = c.args.page.now in
-    let rules = rules_by (g.P.Priority.ahead c.args.priority.now) (g.R.PriceRule.price c.args.rule.now) g.R.PriceRule.mark in
-    subst (λ (o : Option Quote). Handed (turn_under rules o i ps) i.volume ps ps page page c.args.from (record { slips = 0; left = i.volume })) (sym c.in-None.is) (handed_none i.volume ps page c.args.from)
+    let rules = rules_by (g.P.Priority.ahead c.args.rules.now.priority) (g.R.PriceRule.price c.args.rules.now.rule) g.R.PriceRule.MARK in
+    subst (λ (o : Option Quote). Handed (turn_under rules o i ps) i.volume ps ps page page (record { slips = 0; left = i.volume })) (sym c.in-None.is) (handed_none i.volume ps page)

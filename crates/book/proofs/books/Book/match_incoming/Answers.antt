@@ -1,9 +1,9 @@
 use Rattle.std.proofs.Common.{take, refl, arith}
 use Rattle.law.proofs.Lawful.{table_parts, lawful_count}
 use Rattle.law.proofs.Lists.{keep_short}
+use Rattle.law.specs.Turns.{rules_by}
 use Rattle.ledger.specs.Ledgers.{memory}
 use Rattle.ledger.specs.Places.{live}
-use Rattle.book.specs.InPlace.{rules_by}
 use Rattle.book.proofs.Matching.{lawful_distinct, matched}
 use Rattle.book.proofs.books.Book.match_incoming.Goals as goal
 
@@ -19,12 +19,11 @@ turn_among-turned-requires g c =
 
 pub returns : goal.returns
 returns g c =
-    let rules = rules_by (g.P.Priority.ahead c.args.self.now.priority) (g.R.PriceRule.price c.args.self.now.rule) g.R.PriceRule.mark in
+    let rules = rules_by (g.P.Priority.ahead c.args.self.now.rules.priority) (g.R.PriceRule.price c.args.self.now.rules.rule) g.R.PriceRule.MARK in
     let m = memory c.args.self.now.ledger c.args.table.now c.args.page.now in
     record {
       matched = matched rules m c.args.incoming.now c.requires.lawful c.requires.new c.quote_in_force-quote.result c.quote_in_force-quote.ensures
           c.turn_among-turned.new.table c.close_among-self.new.table c.turn_among-turned.new.page c.close_among-self.result c.turn_among-turned.result
           c.requires.room c.turn_among-turned.ensures.handed c.turn_among-turned.ensures.beyond c.close_among-self.ensures.count c.close_among-self.ensures.table;
-      priority = refl;
-      rule = refl;
+      rules = refl;
     }
