@@ -6,10 +6,5 @@ pub(crate) fn line_end(text: &[u8]) -> Option<usize>
     ensures within { IfSome result (λ i. i < length text.now) }
     ensures lines { lines text.now ≡ cut result text.now }
 {
-    for (i, byte) in text.iter().enumerate() {
-        if *byte == b'\n' {
-            return Some(i);
-        }
-    }
-    None
+    text.iter().position(|byte| *byte == b'\n')
 }

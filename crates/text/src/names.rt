@@ -1,8 +1,9 @@
-ghost use Rattle.std.specs.Prelude.{◌≡◌};
+ghost use Rattle.std.specs.Prelude.{◌≡◌, Some};
 ghost use Rattle.std.specs.Str.{bytes_eq};
 ghost use Rattle.text.specs.Names.{spelled, named, name_of};
 
 use rules::calls::Call;
+use std::fmt;
 
 /// What a script calls a call.
 #[derive(Clone, Copy)]
@@ -10,16 +11,17 @@ pub(crate) enum CallName {
     List,
 }
 
-impl CallName {
-    /// The name of a call.
-    pub(crate) fn of(call: &Call) -> CallName
-        ensures { result ≡ name_of call.now }
-    {
+impl From<&Call> for CallName {
+    ghost from_gives = { λ call r. r ≡ name_of call.now };
+
+    fn from(call: &Call) -> CallName {
         match call {
             Call::List { .. } => CallName::List,
         }
     }
+}
 
+impl CallName {
     /// The name as it is written.
     pub(crate) fn text(self) -> &'static str
         ensures { result.now ≡ spelled self }
@@ -40,9 +42,14 @@ impl CallName {
     pub(crate) fn read(bytes: &[u8]) -> Option<CallName>
         ensures { result ≡ named bytes.now }
     {
-        if CallName::List.spells(bytes) {
-            return Some(CallName::List);
-        }
-        None
+        CallName::List.spells(bytes).then_some(CallName::List)
+    }
+}
+
+impl fmt::Display for CallName {
+    ghost output = { λ name. Some (spelled name) };
+
+    fn fmt<W: fmt::Write>(&self, f: &mut fmt::Formatter<W>) -> fmt::Result {
+        f.write_str(self.text())
     }
 }

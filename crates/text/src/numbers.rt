@@ -5,10 +5,11 @@ ghost use Rattle.text.specs.Numbers.{number_of};
 const LARGEST: u64 = 4_294_967_295;
 
 /// The number that the bytes write in decimal: digits alone, no leading zero, at most 4,294,967,295.
+#[tactic(auto, using(crate::proofs::Numerals::too_large))]
 pub fn number(value: &[u8]) -> Option<u32>
     ensures { result ≡ number_of value.now }
 {
-    if value.len() == 0 {
+    if value.is_empty() {
         return None;
     }
     if value.len() > 1 && value[0] == b'0' {
@@ -16,10 +17,10 @@ pub fn number(value: &[u8]) -> Option<u32>
     }
     let mut n: u64 = 0;
     for b in value {
-        if *b < b'0' || *b > b'9' {
+        if !b.is_ascii_digit() {
             return None;
         }
-        n = n * 10 + (*b - b'0') as u64;
+        n = n * 10 + u64::from(*b - b'0');
         if n > LARGEST {
             return None;
         }

@@ -42,6 +42,7 @@ impl<'a> Reader<'a> {
 
     /// The next call, or none at the end of the script. At the end and at a fault the reader stays where it was, so
     /// that asking again gives the same.
+    #[tactic(auto, using(crate::proofs::Steps::started))]
     pub fn next_call(&mut self) -> Result<Option<Call>, ReadFault>
         ensures reads { to_read self.old start ≡ followed_by result (to_read self.new start) }
         ensures stays { Stays result (to_read self.old start) (to_read self.new start) }
@@ -65,10 +66,10 @@ impl<'a> Reader<'a> {
         ensures reads { onward_from self.old (ask (codes "call=") form_of) ≡ went result done self.new }
         ensures advanced { Advanced result self.old self.new }
     {
-        let name = self.value(b"call=")?;
-        match CallName::read(name) {
-            Some(CallName::List) => self.list(),
-            None => Err(self.fault(Cause::Key)),
+        let value = self.value(b"call=")?;
+        let name = CallName::read(value).ok_or(self.fault(Cause::Key))?;
+        match name {
+            CallName::List => self.list(),
         }
     }
 
@@ -93,7 +94,7 @@ impl<'a> Reader<'a> {
             Some(end) => {
                 self.at += end + 1;
                 self.line += 1;
-                Ok(&rest[0..end])
+                Ok(&rest[..end])
             }
             None if rest.is_empty() => Err(self.fault(Cause::Unfinished)),
             None => Err(ReadFault {
@@ -104,15 +105,13 @@ impl<'a> Reader<'a> {
     }
 
     /// The value of the next line, which has to begin with `front`.
+    #[tactic(auto, using(crate::proofs::Fronts::behind_by))]
     fn value(&mut self, front: &[u8]) -> Result<&'a [u8], ReadFault>
         ensures reads { (next : List ℕ → Form) → onward_from self.old (ask front.now next) ≡ went result (λ v. next v.now) self.new }
         ensures advanced { Advanced result self.old self.new }
     {
         let line = self.next_line()?;
-        match line.strip_prefix(front) {
-            Some(value) => Ok(value),
-            None => Err(self.fault(Cause::Key)),
-        }
+        line.strip_prefix(front).ok_or(self.fault(Cause::Key))
     }
 
     /// The number on the next line, which has to begin with `front`.
@@ -121,10 +120,7 @@ impl<'a> Reader<'a> {
         ensures advanced { Advanced result self.old self.new }
     {
         let value = self.value(front)?;
-        match number(value) {
-            Some(n) => Ok(n),
-            None => Err(self.fault(Cause::Value)),
-        }
+        number(value).ok_or(self.fault(Cause::Value))
     }
 
     /// The keys of list.

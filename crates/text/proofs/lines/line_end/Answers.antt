@@ -1,15 +1,10 @@
-use Rattle.text.proofs.Cuts.{more, found_end, no_end}
+use Rattle.std.proofs.Common.{eqb, rules, tests}
+use Rattle.std.proofs.lemmas.Iterator.{YieldsList-from_slice}
+use Rattle.std.proofs.lemmas.Iterator.Search.{position_from_yields_List}
+use Rattle.text.proofs.Cuts.{lines_cut}
 use Rattle.text.proofs.lines.line_end.Goals as goal
 
-pub loop-i-preserved : goal.loop-i-preserved
-loop-i-preserved c = more c.args.text.now c.loop-i.i c.loop-i-test.true c.if-byte-eq10.false c.loop-i.invariant
-
-pub returns : goal.returns
-returns c = record { within = tt; lines = no_end c.args.text.now c.loop-i.i c.loop-i-test.false c.loop-i.invariant }
-
-pub returns-then-byte-eq10 : goal.returns-then-byte-eq10
-returns-then-byte-eq10 c =
-    record {
-      within = c.loop-i-test.true;
-      lines = found_end c.args.text.now c.loop-i.i c.loop-i-test.true c.if-byte-eq10.true c.loop-i.invariant;
-    }
+pub returns-clause-lines : goal.returns-clause-lines
+returns-clause-lines c =
+    let first = position_from_yields_List (λ b. eqb b 10) _ _ c.position.result c.position.ensures.ran (YieldsList-from_slice _ c.iter.ensures.rest) (λ x b q k. search (rules, tests)) in
+    rw first (lines_cut c.args.text.now)
