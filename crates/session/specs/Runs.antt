@@ -1,18 +1,18 @@
--- The run of a script from some securities on: what it prints, and the securities after it.
+-- The run of a script from a ledger on: what it prints, and the ledger after it.
 use Rattle.std.specs.Prelude.{ℕ, List, [], ◌++◌}
-use Rattle.rules.specs.declared.securities.Security.{Security}
+use Rattle.ledger.specs.declared.ledgers.Ledger.{Ledger}
 use Rattle.text.specs.Listings.{outcome_text, fault_text}
 use Rattle.text.specs.Readings.{Reading, end, fault, call}
 use Rattle.session.specs.Calls.{call_answer, call_after}
 
 -- the outcomes of the calls in order, then the fault, if there is one
-abbrev pub listing_text : List Security → Reading → List ℕ
-listing_text securities end = []
-listing_text securities (fault f) = fault_text f
-listing_text securities (call c rest) = outcome_text c (call_answer securities c) ++ listing_text (call_after securities c) rest
+abbrev pub listing_text : Ledger → Reading → List ℕ
+listing_text ledger end = []
+listing_text ledger (fault f) = fault_text f
+listing_text ledger (call c rest) = outcome_text c (call_answer ledger c) ++ listing_text (call_after ledger c) rest
 
 -- a fault leaves what the calls before it left
-abbrev pub after_run : List Security → Reading → List Security
-after_run securities end = securities
-after_run securities (fault f) = securities
-after_run securities (call c rest) = after_run (call_after securities c) rest
+abbrev pub after_run : Ledger → Reading → Ledger
+after_run ledger end = ledger
+after_run ledger (fault f) = ledger
+after_run ledger (call c rest) = after_run (call_after ledger c) rest

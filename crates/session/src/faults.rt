@@ -11,7 +11,7 @@ pub enum Fault {
     /// The reader's own cause, with the line that it stands on.
     Script { cause: Cause, line: usize },
     /// No memory was left for the listing.
-    Memory,
+    Memory(AllocError),
 }
 
 impl From<ReadFault> for Fault {
@@ -26,9 +26,9 @@ impl From<ReadFault> for Fault {
 }
 
 impl From<AllocError> for Fault {
-    ghost from_gives = { λ _ r. r ≡ Memory };
+    ghost from_gives = { λ error r. r ≡ Memory error };
 
-    fn from(_: AllocError) -> Fault {
-        Fault::Memory
+    fn from(error: AllocError) -> Fault {
+        Fault::Memory(error)
     }
 }

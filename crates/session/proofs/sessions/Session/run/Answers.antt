@@ -1,4 +1,5 @@
-use Rattle.std.proofs.Common.{string_bytes}
+use Rattle.std.proofs.Common.{string_bytes, ap, ◌∙◌}
+use Rattle.session.specs.Calls.{with_ledger}
 use Rattle.text.specs.Readings.{reading}
 use Rattle.session.proofs.Closings.{finished}
 use Rattle.session.proofs.sessions.Session.run.Goals as goal
@@ -7,9 +8,9 @@ pub returns : goal.returns
 returns c =
     let f = finished
     (reading c.args.script.now)
-    c.args.self.book.securities
+    c.args.self.book.ledger
     (string_bytes c.new-listing.result)
-    c.play-ended.new.self.book.securities
+    c.play-ended.new.self.book.ledger
     (string_bytes c.play-ended.new.listing)
     (string_bytes c.close.new.listing)
     c.play-ended.result
@@ -17,4 +18,4 @@ returns c =
     c.play-ended.ensures.played
     c.in_ok-close.ensures
     in
-    record { listing = f.printed; book = f.stands; table = c.play-ended.ensures.table; page = c.play-ended.ensures.page }
+    record { listing = f.printed; session = c.play-ended.ensures.stays ∙ ap (with_ledger c.args.self) f.stands }
