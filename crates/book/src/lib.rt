@@ -4,3 +4,5 @@
 mod among;
 pub mod books;
 mod turns;
+
+pub use books::Book;

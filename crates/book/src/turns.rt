@@ -32,7 +32,7 @@ fn active_number(number: Option<u32>) -> u32
 fn is_ready(seeker: &Seeker, intent: &Intent) -> bool
     ensures { result ≡ ready seeker.now.quote seeker.now.price seeker.now.incoming intent.now }
 {
-    0 < intent.remaining && seeker.may_meet(intent)
+    0 < intent.remaining && seeker.is_eligible(intent)
 }
 
 /// The place of the ready intent that no other ready one is ahead of.

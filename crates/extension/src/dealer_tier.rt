@@ -1,29 +1,21 @@
 ghost use Rattle.std.specs.Prelude.{nat_eq};
-ghost use Rattle.rules.specs.Priorities.{tier};
-ghost use Rattle.std.proofs.Common.{rules};
 
 use rules::intents::Standing;
-use rules::priorities::Priority;
+use rules::priorities::tier::{Membership, Tier};
 
-/// One dealer's intents go first, whoever comes in; within each part the priority below decides.
+/// One dealer's intents, whoever comes in.
 #[derive(Clone, Copy)]
-pub struct DealerTier<P: Priority> {
+pub struct Dealer {
     pub dealer: u32,
-    pub below: P,
 }
 
-impl<P: Priority> Priority for DealerTier<P> {
-    ghost ahead = { λ p s a b. tier (λ x. nat_eq x.subscriber p.dealer) (P.Priority.ahead p.below s) (P.Priority.ahead p.below s) a b };
+impl Membership for Dealer {
+    ghost member = { λ it _ x. nat_eq x.subscriber it.dealer };
 
-    ghost total = { Prim.search rules };
-
-    ghost transitive = { Prim.search rules };
-
-    fn is_ahead(&self, subscriber: u32, a: &Standing, b: &Standing) -> bool {
-        match (a.subscriber == self.dealer, b.subscriber == self.dealer) {
-            (true, false) => true,
-            (false, true) => false,
-            _ => self.below.is_ahead(subscriber, a, b),
-        }
+    fn contains(&self, _subscriber: u32, x: &Standing) -> bool {
+        x.subscriber == self.dealer
     }
 }
+
+/// One dealer's intents go first; within each part the priority below decides.
+pub type DealerTier<P> = Tier<Dealer, P>;

@@ -17,16 +17,9 @@ mod tests {
     use rules::prices::step::StepRule;
     use rules::priorities::Priority;
     use rules::priorities::house_tier::HouseTier;
-    use rules::priorities::large_tier::LargeTier;
+    use rules::priorities::large_tier::{Large, LargeTier};
     use rules::priorities::time::Time;
-    use rules::quotes::Quote;
-
-    const QUOTE: Quote = Quote {
-        bid: 1000,
-        bid_volume: 3000,
-        offer: 1010,
-        offer_volume: 4000,
-    };
+    use rules::worked_examples::WIDE;
 
     fn standing(subscriber: u32, group: u32, entered: u32, number: u32) -> Standing {
         Standing {
@@ -45,20 +38,20 @@ mod tests {
         let over_midpoint = OfferRule {
             below: MidpointRule,
         };
-        assert_eq!(rt; over_step.price_of(&QUOTE, Side::Buy), 2020);
-        assert_eq!(rt; over_step.price_of(&QUOTE, Side::Sell), 2002);
-        assert_eq!(rt; over_midpoint.price_of(&QUOTE, Side::Sell), 2010);
+        assert_eq!(rt; over_step.price_of(&WIDE, Side::Buy), 2020);
+        assert_eq!(rt; over_step.price_of(&WIDE, Side::Sell), 2002);
+        assert_eq!(rt; over_midpoint.price_of(&WIDE, Side::Sell), 2010);
         assert_eq!(rt; OfferRule::<StepRule>::MARK, 'F');
-        assert!(rt; is_within_quote(&over_step, &QUOTE, Side::Buy));
+        assert!(rt; is_within_quote(&over_step, &WIDE, Side::Buy));
     }
 
     #[test]
     fn own_tier_between_the_engines(rt: HostRuntime) {
         let pile = HouseTier {
             below: DealerTier {
-                dealer: 5,
+                members: Dealer { dealer: 5 },
                 below: LargeTier {
-                    threshold: 5000,
+                    members: Large { threshold: 5000 },
                     below: Time,
                 },
             },

@@ -18,8 +18,11 @@ abbrev pub tier : (Standing → Bool) → Ahead → Ahead → Ahead
 tier test passed failed a b = cond (test a) (cond (test b) (passed a b) true) (cond (test b) false (failed a b))
 
 -- the entered volume reaches the threshold, however little remains
+abbrev pub is_large : ℕ → Standing → Bool
+is_large threshold x = nat_le threshold x.entered
+
 abbrev pub large_first : ℕ → Ahead → Ahead
-large_first threshold below = tier (λ (x : Standing). nat_le threshold x.entered) below below
+large_first threshold below = tier (is_large threshold) below below
 
 -- the incoming subscriber's own, by group; strangers by the ranking below
 abbrev pub house_first : ℕ → Ahead → Ahead

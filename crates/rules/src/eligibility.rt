@@ -29,7 +29,7 @@ impl Seeker {
     }
 
     /// Whether a resting intent is eligible for the party.
-    pub fn may_meet(&self, intent: &Intent) -> bool
+    pub fn is_eligible(&self, intent: &Intent) -> bool
         ensures { result ≡ eligible self.now.quote self.now.price self.now.incoming intent.now }
     {
         let incoming = &self.incoming;

@@ -6,6 +6,7 @@ use crate::intents::Standing;
 pub mod house_tier;
 pub mod large_tier;
 pub mod rule_4_108;
+pub mod tier;
 pub mod time;
 
 /// A priority: for an incoming subscriber, which of two intents is ahead of the other. Turns and sweeps know of a priority

@@ -12,13 +12,15 @@ use crate::prices::midpoint::MidpointRule;
 use crate::prices::step::StepRule;
 use crate::quotes::Quote;
 
-const WIDE: Quote = Quote {
+/// Ten ticks wide, and lawful.
+pub const WIDE: Quote = Quote {
     bid: 1000,
     bid_volume: 3000,
     offer: 1010,
     offer_volume: 4000,
 };
 
+/// One tick wide, and lawful.
 const NARROW: Quote = Quote {
     bid: 1000,
     bid_volume: 3000,
@@ -62,7 +64,7 @@ fn buys_as_passive(limit: u32) -> bool
 {
     let buy = intent_of(1, Side::Buy, limit, Minimums::NONE);
     let order = Incoming::from(&market_order(Side::Sell));
-    Seeker::new(&MidpointRule, NARROW, order).may_meet(&buy)
+    Seeker::new(&MidpointRule, NARROW, order).is_eligible(&buy)
 }
 
 /// Whether a resting sell is eligible for an incoming buy with a limit, at the midpoint of the narrow quote.
@@ -71,7 +73,7 @@ fn buys_as_active(limit: u32) -> bool
 {
     let buy = Incoming::from(&intent_of(2, Side::Buy, limit, Minimums::NONE));
     let sell = intent_of(1, Side::Sell, 1000, Minimums::NONE);
-    Seeker::new(&MidpointRule, NARROW, buy).may_meet(&sell)
+    Seeker::new(&MidpointRule, NARROW, buy).is_eligible(&sell)
 }
 
 /// Whether a resting sell with these minimums is eligible for a market order to buy, at the wide quote.
@@ -81,7 +83,7 @@ fn sells_as_passive(spread: u32, volume: u32) -> bool
     let minimums = Minimums { spread, volume };
     let sell = intent_of(1, Side::Sell, 1000, minimums);
     let order = Incoming::from(&market_order(Side::Buy));
-    Seeker::new(&StepRule { ticks: 1 }, WIDE, order).may_meet(&sell)
+    Seeker::new(&StepRule { ticks: 1 }, WIDE, order).is_eligible(&sell)
 }
 
 /// Whether a resting buy is eligible for an incoming sell with these minimums, at the wide quote.
@@ -91,7 +93,7 @@ fn sells_as_active(spread: u32, volume: u32) -> bool
     let minimums = Minimums { spread, volume };
     let sell = Incoming::from(&intent_of(2, Side::Sell, 1000, minimums));
     let buy = intent_of(1, Side::Buy, 1010, Minimums::NONE);
-    Seeker::new(&StepRule { ticks: 1 }, WIDE, sell).may_meet(&buy)
+    Seeker::new(&StepRule { ticks: 1 }, WIDE, sell).is_eligible(&buy)
 }
 
 fn one_step_inside_a_wide_spread() -> bool

@@ -2,7 +2,7 @@ ghost use Rattle.std.specs.Prelude.{◌≡◌, replicate, IfOk};
 ghost use Rattle.ledger.specs.Ledgers.{new_ledger};
 ghost use Rattle.rules.specs.Blanks.{blank_intent, blank_slip};
 
-use book::books::Book;
+use book::Book;
 use rules::calls::{Answer, Call};
 use rules::intents::Intent;
 use rules::prices::step::StepRule;
@@ -25,7 +25,7 @@ impl Session {
     /// A new book, with a table and a page of that many places.
     pub fn open(heap: Global, places: usize) -> Result<Session, AllocError>
         ensures book { IfOk result (λ s. s.book.ledger ≡ new_ledger) }
-        ensures priority { IfOk result (λ s. s.book.rules.priority.below.threshold ≡ 5000) }
+        ensures priority { IfOk result (λ s. s.book.rules.priority.below.members.threshold ≡ 5000) }
         ensures rule { IfOk result (λ s. s.book.rules.rule.ticks ≡ 1) }
         ensures table { IfOk result (λ s. s.table.items ≡ replicate places blank_intent) }
         ensures page { IfOk result (λ s. s.page.items ≡ replicate places blank_slip) }

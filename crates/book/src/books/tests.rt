@@ -11,18 +11,11 @@ use rules::prices::step::StepRule;
 use rules::priorities::Priority;
 use rules::priorities::rule_4_108::rule_4_108;
 use rules::priorities::time::Time;
-use rules::quotes::Quote;
 use rules::refusals::Refusal;
 use rules::securities::{Security, State};
 use rules::slips::{Fill, Slip};
+use rules::worked_examples::WIDE;
 use std::test::Fail;
-
-const WIDE: Quote = Quote {
-    bid: 1000,
-    bid_volume: 3000,
-    offer: 1010,
-    offer_volume: 4000,
-};
 
 const STEP: StepRule = StepRule { ticks: 1 };
 

@@ -1,30 +1,22 @@
-ghost use Rattle.rules.specs.Priorities.{large_first};
-ghost use Rattle.std.proofs.Common.{rules};
+ghost use Rattle.rules.specs.Priorities.{is_large};
 
 use crate::intents::Standing;
-use crate::priorities::Priority;
+use crate::priorities::tier::{Membership, Tier};
 
-/// Intents whose entered volume reaches the threshold go first; two large ones, and two others, go as the priority below
-/// says.
+/// The intents whose entered volume reaches the threshold.
 #[derive(Clone, Copy)]
-pub struct LargeTier<P: Priority> {
+pub struct Large {
     /// In shares.
     pub threshold: u32,
-    pub below: P,
 }
 
-impl<P: Priority> Priority for LargeTier<P> {
-    ghost ahead = { λ p s a b. large_first p.threshold (P.Priority.ahead p.below s) a b };
+impl Membership for Large {
+    ghost member = { λ large _ x. is_large large.threshold x };
 
-    ghost total = { Prim.search rules };
-
-    ghost transitive = { Prim.search rules };
-
-    fn is_ahead(&self, subscriber: u32, a: &Standing, b: &Standing) -> bool {
-        match (self.threshold <= a.entered, self.threshold <= b.entered) {
-            (true, false) => true,
-            (false, true) => false,
-            _ => self.below.is_ahead(subscriber, a, b),
-        }
+    fn contains(&self, _subscriber: u32, x: &Standing) -> bool {
+        self.threshold <= x.entered
     }
 }
+
+/// Large intents go first; two of them, and two others, go as the priority below says.
+pub type LargeTier<P> = Tier<Large, P>;

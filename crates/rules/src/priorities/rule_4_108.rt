@@ -4,7 +4,7 @@ ghost use Rattle.rules.specs.Priorities.{rule_4_108};
 use crate::intents::Standing;
 use crate::priorities::Priority;
 use crate::priorities::house_tier::HouseTier;
-use crate::priorities::large_tier::LargeTier;
+use crate::priorities::large_tier::{Large, LargeTier};
 use crate::priorities::time::Time;
 
 /// The pile of Rule 4-108(6): house over large over time.
@@ -12,11 +12,11 @@ pub type Rule4108 = HouseTier<LargeTier<Time>>;
 
 /// The pile of Rule 4-108(6), in which an intent of 5,000 shares is large.
 pub fn rule_4_108() -> Rule4108
-    ensures { result.below.threshold ≡ 5000 }
+    ensures { result.below.members.threshold ≡ 5000 }
 {
     HouseTier {
         below: LargeTier {
-            threshold: 5_000,
+            members: Large { threshold: 5_000 },
             below: Time,
         },
     }
