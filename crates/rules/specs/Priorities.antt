@@ -1,5 +1,5 @@
 -- Who is ahead of whom: time, the tiers over any ranking below them, and the pile of Rule 4-108(6).
-use Rattle.std.specs.Prelude.{ℕ, Bool, true, false, cond, ◌==◌, nat_eq, nat_le, nat_lt}
+use Rattle.std.specs.Prelude.{ℕ, Bool, true, false, if◌then◌else◌, ◌==◌, nat_eq, nat_le, nat_lt}
 use Rattle.rules.specs.declared.intents.Standing.{Standing}
 
 -- of two intents, whether the first is ahead of the second
@@ -11,11 +11,11 @@ by_time a b = nat_lt a.number b.number
 
 -- the smaller group, and in one group the earlier
 abbrev pub by_group : Ahead
-by_group a b = cond (a.group == b.group) (by_time a b) (nat_lt a.group b.group)
+by_group a b = if a.group == b.group then by_time a b else nat_lt a.group b.group
 
 -- those that pass the test are ahead of those that fail it; two alike go by the ranking of their kind
 abbrev pub tier : (Standing → Bool) → Ahead → Ahead → Ahead
-tier test passed failed a b = cond (test a) (cond (test b) (passed a b) true) (cond (test b) false (failed a b))
+tier test passed failed a b = if test a then (if test b then passed a b else true) else (if test b then false else failed a b)
 
 -- the entered volume reaches the threshold, however little remains
 abbrev pub is_large : ℕ → Standing → Bool

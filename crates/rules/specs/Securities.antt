@@ -1,5 +1,5 @@
 -- What a security is before it is listed, how it is listed, and the quote that it trades under.
-use Rattle.std.specs.Prelude.{Bool, true, false, cond, ◌&&◌, List, replicate, is_some, Some, None, Ok, Err, Option, Result}
+use Rattle.std.specs.Prelude.{Bool, true, false, if◌then◌else◌, ◌&&◌, List, replicate, is_some, Some, None, Ok, Err, Option, Result}
 use Rattle.rules.specs.declared.refusals.Refusal.{Refusal}
 use Rattle.rules.specs.declared.refusals.Refusal.TheVariants.{Listing}
 use Rattle.rules.specs.declared.quotes.Quote.{Quote}
@@ -25,7 +25,7 @@ is_listed s = is_some s.state
 
 -- a security is listed once
 abbrev pub list_outcome : Security → Result (Unit {0}) Refusal
-list_outcome s = cond (is_listed s) (Err Listing) (Ok tt)
+list_outcome s = if is_listed s then Err Listing else Ok tt
 
 abbrev pub is_regular : Phase → Bool
 is_regular PreOpen = false
@@ -42,4 +42,4 @@ is_open (Some Inhibited) = false
 
 -- a security trades in the regular phase, while it is open, under the quote that it has
 abbrev pub in_force : Phase → Security → Option Quote
-in_force phase s = cond (is_regular phase && is_open s.state) s.quote None
+in_force phase s = if is_regular phase && is_open s.state then s.quote else None

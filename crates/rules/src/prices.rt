@@ -1,4 +1,4 @@
-ghost use Rattle.std.specs.Prelude.{◌≡◌, ℕ, T};
+ghost use Rattle.std.specs.Prelude.{◌≡◌, ℕ, IsTrue};
 ghost use Rattle.rules.specs.Prices.{WithinQuote};
 ghost use Rattle.rules.specs.Quotes.{lawful_quote};
 ghost use Rattle.rules.specs.declared.intents.Side.{Side};
@@ -27,5 +27,5 @@ pub trait PriceRule {
         ensures { result ≡ price self.now quote.now side };
 
     /// For a lawful quote the price lies between twice the bid and twice the offer, both allowed.
-    ghost between: { (rule : Self) (quote : Quote) (side : Side) → T (lawful_quote quote) → WithinQuote quote (price rule quote side) };
+    ghost between: { (rule : Self) (quote : Quote) (side : Side) → IsTrue (lawful_quote quote) → WithinQuote quote (price rule quote side) };
 }

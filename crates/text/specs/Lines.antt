@@ -1,5 +1,5 @@
 -- A script cut into lines at each byte 10. What stands behind the last one is a line that has not ended.
-use Rattle.std.specs.Prelude.{ℕ, ◌+◌, Bool, true, false, cond, List, [], ◌∷◌, take, drop, Some, None, Option, ◌==◌}
+use Rattle.std.specs.Prelude.{ℕ, ◌+◌, Bool, true, false, if◌then◌else◌, List, [], ◌∷◌, take, drop, Some, None, Option, ◌==◌}
 
 pub record Line : Type 0 where
   pub text : List ℕ
@@ -12,7 +12,7 @@ grown c (l ∷ ls) = record { text = c ∷ l.text; ended = l.ended } ∷ ls
 
 abbrev pub lines : List ℕ → List Line
 lines [] = []
-lines (c ∷ cs) = cond (c == 10) (record { text = []; ended = true } ∷ lines cs) (grown c (lines cs))
+lines (c ∷ cs) = if c == 10 then record { text = []; ended = true } ∷ lines cs else grown c (lines cs)
 
 abbrev pub unended : List ℕ → List Line
 unended [] = []

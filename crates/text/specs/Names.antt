@@ -1,5 +1,5 @@
 -- The names of the calls, as scripts and listings have them.
-use Rattle.std.specs.Prelude.{ℕ, cond, List, Some, None, codes, Option}
+use Rattle.std.specs.Prelude.{ℕ, if◌then◌else◌, List, Some, None, codes, Option}
 use Rattle.std.specs.Str.{bytes_eq}
 use Rattle.rules.specs.declared.calls.Call.{Call}
 use Rattle.rules.specs.declared.calls.Call.TheVariants.{List as list_call}
@@ -10,7 +10,7 @@ abbrev pub spelled : CallName → List ℕ
 spelled list_name = codes "list"
 
 abbrev pub named : List ℕ → Option CallName
-named bytes = cond (bytes_eq bytes (spelled list_name)) (Some list_name) None
+named bytes = if bytes_eq bytes (spelled list_name) then Some list_name else None
 
 abbrev pub name_of : Call → CallName
 name_of (list_call security) = list_name

@@ -1,5 +1,5 @@
 -- The numbers that bytes write.
-use Rattle.std.specs.Prelude.{ℕ, ◌+◌, ◌-◌, ◌*◌, Bool, true, cond, ◌&&◌, ◌||◌, List, [], ◌∷◌, length, Some, None, Option, ◌==◌, nat_le, nat_lt, slice_index}
+use Rattle.std.specs.Prelude.{ℕ, ◌+◌, ◌-◌, ◌*◌, Bool, true, if◌then◌else◌, ◌&&◌, ◌||◌, List, [], ◌∷◌, length, Some, None, Option, ◌==◌, nat_le, nat_lt, slice_index}
 
 abbrev pub digit : ℕ → Bool
 digit c = nat_le 48 c && nat_le c 57
@@ -15,11 +15,11 @@ value_on n (c ∷ cs) = value_on (n * 10 + (c - 48)) cs
 
 -- the same, where all are digits and the value is not too large
 abbrev pub within : ℕ → List ℕ → Option ℕ
-within n cs = cond (digits cs && nat_le (value_on n cs) 4294967295) (Some (value_on n cs)) None
+within n cs = if digits cs && nat_le (value_on n cs) 4294967295 then Some (value_on n cs) else None
 
 -- no digit at all, or a zero in front of more
 abbrev pub unfit : List ℕ → Bool
 unfit s = length s == 0 || (nat_lt 1 (length s) && slice_index s 0 == 48)
 
 abbrev pub number_of : List ℕ → Option ℕ
-number_of s = cond (unfit s) None (within 0 s)
+number_of s = if unfit s then None else within 0 s

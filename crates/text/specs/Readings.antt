@@ -1,5 +1,5 @@
 -- What a script says: its calls, one after another, up to its end or its first fault.
-use Rattle.std.specs.Prelude.{ℕ, ◌+◌, Bool, true, false, cond, List, [], ◌∷◌, length, Some, None, Ok, Err, codes, Option, Result, nat_lt}
+use Rattle.std.specs.Prelude.{ℕ, ◌+◌, Bool, true, false, if◌then◌else◌, List, [], ◌∷◌, length, Some, None, Ok, Err, codes, Option, Result, nat_lt}
 use Rattle.rules.specs.declared.calls.Call.{Call}
 use Rattle.text.specs.declared.faults.Cause.{Cause}
 use Rattle.text.specs.declared.faults.Cause.TheVariants.{TooLong, Key, Unfinished}
@@ -41,13 +41,13 @@ keyed go n next (Some value) = onward go n (next value)
 
 -- the lines behind line n
 abbrev pub read : List Line → ℕ → Due → Reading
-read [] n due = cond due.inside (faulty Unfinished n) end
+read [] n due = if due.inside then faulty Unfinished n else end
 read (l ∷ ls) n due =
-    cond l.ended (keyed (read ls (n + 1)) (n + 1) due.next (behind due.front l.text)) (faulty Unfinished (n + 1))
+    if l.ended then keyed (read ls (n + 1)) (n + 1) due.next (behind due.front l.text) else faulty Unfinished (n + 1)
 
 -- a script of more than 16,384 bytes is not read at all
 abbrev pub length_check : List ℕ → Result (Unit {0}) ReadFault
-length_check script = cond (nat_lt 16384 (length script)) (Err (record { cause = TooLong; line = 0 })) (Ok tt)
+length_check script = if nat_lt 16384 (length script) then Err (record { cause = TooLong; line = 0 }) else Ok tt
 
 abbrev pub if_fit : Result (Unit {0}) ReadFault → Reading → Reading
 if_fit (Ok u) rest = rest
