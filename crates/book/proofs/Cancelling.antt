@@ -1,5 +1,6 @@
 -- The call cancel: the intent that is emptied leaves.
 use Rattle.std.proofs.Common.{◌≡◌, ℕ, zero, suc, ◌+◌, ◌-◌, ◌<◌, ◌≤◌, Bool, true, false, cond, not, eqb, List, [], ◌∷◌, ◌++◌, length, take, drop, set, replicate, Ok, sym, refl, ap, ◌∙◌, ⊎_elim, arith, drop-set-lt}
+use Rattle.std.specs.List.{filter, AllByRecursion, position_or_len}
 use lib.Seq.{take-set-lt}
 use Rattle.std.proofs.lemmas.List.{get_or-take}
 use Rattle.std.proofs.lemmas.Bool.{cond-true, cases_lt, both_ways, lt-ltb, eqb-true, ne_eqb}
@@ -9,7 +10,7 @@ use Rattle.law.specs.declared.calls.Call.TheVariants.{Cancel as cancel_call}
 use Rattle.law.specs.declared.calls.Reference.{Reference}
 use Rattle.law.specs.Accounts.{with_left, without, left_of, find}
 use Rattle.law.specs.Checks.{checked, is_of, cancel_checks}
-use Rattle.law.specs.Lists.{keep, Each, Pairwise}
+use Rattle.law.specs.Lists.{Pairwise}
 use Rattle.law.specs.Memories.{Memory, lawful_intents, lawful_table, laid_out}
 use Rattle.law.specs.Outcomes.{cancel_answer, after}
 use Rattle.law.specs.Turns.{Rules}
@@ -19,7 +20,6 @@ use Rattle.law.proofs.Lessened.{left_found}
 use Rattle.law.proofs.Lists.{each_weaker, keep_all, keep_short}
 use Rattle.law.proofs.Numbers.{Apart, rising_apart}
 use Rattle.law.proofs.Outcomes.{after_accepted}
-use Rattle.std.specs.List.{position_or_len}
 use Rattle.ledger.specs.Places.{at, live, has_number}
 use Rattle.ledger.proofs.Scans.{found_here, found_nowhere}
 use Rattle.book.proofs.Matching.{laid_out_less}
@@ -29,21 +29,21 @@ abbrev place_in : ℕ → List Intent → ℕ
 place_in n ps = position_or_len (has_number n) ps
 
 -- an emptied intent is the one that leaves
-emptied_leaves : (n : ℕ) (ps : List Intent) (k : ℕ) → Each (λ (p : Intent). 1 ≤ p.remaining) ps → Pairwise Apart ps → k ≡ place_in n ps → k < length ps →
-    keep live (set ps k (with_left (at ps k) 0)) ≡ without n ps
+emptied_leaves : (n : ℕ) (ps : List Intent) (k : ℕ) → AllByRecursion (λ (p : Intent). 1 ≤ p.remaining) ps → Pairwise Apart ps → k ≡ place_in n ps → k < length ps →
+    filter live (set ps k (with_left (at ps k) 0)) ≡ without n ps
 emptied_leaves n [] k some apart is here = absurd (omega arith)
 emptied_leaves n (p ∷ ps) k some apart is here = by (eqb p.number n) refl k is here (λ j. emptied_leaves n ps j some.1 apart.1)
   where
     by : (b : Bool) → eqb p.number n ≡ b → (k : ℕ) → k ≡ cond (not b) (1 + place_in n ps) 0 → k < suc (length ps) →
-        ((j : ℕ) → j ≡ place_in n ps → j < length ps → keep live (set ps j (with_left (at ps j) 0)) ≡ without n ps) →
-        keep live (set (p ∷ ps) k (with_left (at (p ∷ ps) k) 0)) ≡ cond (not b) (p ∷ without n ps) (without n ps)
+        ((j : ℕ) → j ≡ place_in n ps → j < length ps → filter live (set ps j (with_left (at ps j) 0)) ≡ without n ps) →
+        filter live (set (p ∷ ps) k (with_left (at (p ∷ ps) k) 0)) ≡ cond (not b) (p ∷ without n ps) (without n ps)
     by true e zero is l more =
         keep_all live ps (each_weaker _ _ (λ q h. lt-ltb 0 q.remaining h) ps some.1)
         ∙ sym (keep_all (λ (q : Intent). not (eqb q.number n)) ps (each_weaker _ _ (λ q d. ap not (ne_eqb _ _ (λ k. d (eqb-true p.number n e ∙ sym k)))) ps apart.0))
     by true e (suc k) is l more = absurd (omega arith)
     by false e zero is l more = absurd (omega arith)
     by false e (suc k) is l more =
-        cond-true (live p) (p ∷ keep live (set ps k (with_left (at ps k) 0))) _ (lt-ltb 0 p.remaining some.0)
+        cond-true (live p) (p ∷ filter live (set ps k (with_left (at ps k) 0))) _ (lt-ltb 0 p.remaining some.0)
         ∙ ap (λ (l : List Intent). p ∷ l) (more k (omega arith) (omega arith))
 
 -- where the check passes, the number is that of a resting intent
@@ -86,10 +86,10 @@ module _ (rules : Rules) (m : Memory) (r : Reference) (place : ℕ) (passed : Ok
   same : at m.table place ≡ at ps (place_in n ps)
   same = ap (at m.table) place_is ∙ sym (get_or-take m.count m.table (place_in n ps) blank_intent (let l = many in let h = here in omega arith))
 
-  leaves : keep live (take m.count emptied) ≡ without n ps
+  leaves : filter live (take m.count emptied) ≡ without n ps
   leaves =
       let inside : place < m.count = omega (arith, place_is, here, many) in
-      ap (keep live) (take-set-lt m.count m.table place (with_left (at m.table place) 0) inside
+      ap (filter live) (take-set-lt m.count m.table place (with_left (at m.table place) 0) inside
       ∙ ap (λ (x : Intent). set ps place (with_left x 0)) same ∙ ap (λ (k : ℕ). set ps k (with_left (at ps (place_in n ps)) 0)) place_is)
       ∙ emptied_leaves n ps (place_in n ps) (lawful_left 0 m.next ps intents) apart refl here
 
@@ -98,8 +98,8 @@ module _ (rules : Rules) (m : Memory) (r : Reference) (place : ℕ) (passed : Ok
       ap Ok (ap (λ (x : Intent). x.remaining) same ∙ sym (left_found n ps (at ps (place_in n ps)) apart (found_here n ps here)))
       ∙ sym (checked_ok (cancel_checks m subscriber n) (place_in n ps) place (left_of n ps) (sym passed))
 
-  pub cancel_after : (count' : ℕ) (table' : List Intent) → count' ≡ length (keep live (take m.count emptied)) →
-      table' ≡ keep live (take m.count emptied) ++ (replicate (m.count - count') blank_intent ++ drop m.count emptied) →
+  pub cancel_after : (count' : ℕ) (table' : List Intent) → count' ≡ length (filter live (take m.count emptied)) →
+      table' ≡ filter live (take m.count emptied) ++ (replicate (m.count - count') blank_intent ++ drop m.count emptied) →
       record { phase = m.phase; day = m.day; next = m.next; securities = m.securities; count = count'; table = table'; page = m.page } ≡ after rules m (cancel_call r)
   cancel_after count' table' counted closed =
       let inside : place < m.count = omega (arith, place_is, here, many) in

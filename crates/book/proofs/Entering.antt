@@ -1,5 +1,6 @@
 -- The call enter: its turn, and what is left of it behind the others.
 use Rattle.std.proofs.Common.{◌≡◌, ℕ, suc, ◌+◌, ◌-◌, ◌<◌, Bool, true, false, cond, ltb, List, [], ◌∷◌, ◌++◌, length, take, drop, set, replicate, Some, None, Ok, Option, sym, refl, ap, ◌∙◌, append_assoc, arith}
+use Rattle.std.specs.List.{AllByRecursion}
 use lib.Seq.{set_at}
 use Rattle.std.proofs.lemmas.List.{append-nil, length_push}
 use Rattle.std.proofs.lemmas.Bool.{ltb-true}
@@ -14,7 +15,6 @@ use Rattle.law.specs.declared.calls.Terms.{Terms}
 use Rattle.law.specs.Accounts.{Account, volume_of, traded, with_left, lessen, left_of, quote_in_force, eligible_for, new_intent}
 use Rattle.law.specs.Calls.{entered}
 use Rattle.law.specs.Checks.{enter_checks}
-use Rattle.law.specs.Lists.{Each}
 use Rattle.law.specs.Memories.{Memory, account, capacity, lawful_table, laid_out}
 use Rattle.law.specs.Models.{queue, fills_under, turn_fills}
 use Rattle.law.specs.Outcomes.{enter_answer, after}
@@ -31,7 +31,7 @@ use Rattle.book.specs.Matches.{Matched}
 use Rattle.book.proofs.Calling.{Passed}
 
 -- every slip of a turn carries the party's number
-fills_active : (rules : Rules) (a : Account) (i : Incoming) (o : Option Quote) → Each (λ (f : Fill). f.active ≡ active_number i.number) (fills_under rules o a i)
+fills_active : (rules : Rules) (a : Account) (i : Incoming) (o : Option Quote) → AllByRecursion (λ (f : Fill). f.active ≡ active_number i.number) (fills_under rules o a i)
 fills_active rules a i None = tt
 fills_active rules a i (Some q) = serve_active (active_number i.number) (rules.price q i.side) rules.mark i.volume (queue (rules.ahead i.subscriber) (eligible_for rules.price a i))
 

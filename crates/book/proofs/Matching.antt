@@ -3,6 +3,7 @@ use Rattle.std.proofs.Common.{◌≡◌, ℕ, suc, ◌+◌, ◌-◌, ◌<◌, �
 use Rattle.std.proofs.lemmas.List.Edits.{sets, sets-eq}
 use Rattle.std.proofs.lemmas.List.{length-map, get_or-take, drop_at, replicate-append-replicate}
 use Rattle.std.proofs.lemmas.Bool.{cases_lt, lt-ltb}
+use Rattle.std.specs.List.{filter, AllByRecursion}
 use Rattle.rules.specs.declared.incoming.Incoming.{Incoming}
 use Rattle.rules.specs.declared.intents.Intent.{Intent}
 use Rattle.rules.specs.declared.quotes.Quote.{Quote}
@@ -12,7 +13,6 @@ use Rattle.rules.specs.declared.slips.Slip.TheVariants.{Filled}
 use Rattle.rules.specs.Blanks.{blank_intent}
 use Rattle.rules.specs.Eligibility.{eligible}
 use Rattle.law.specs.Accounts.{Account, quote_in_force, traded, with_left, volume_of, lessen}
-use Rattle.law.specs.Lists.{keep, Each}
 use Rattle.law.specs.Memories.{Memory, capacity, account, lawful_intents, lawful_table, laid_out, written}
 use Rattle.law.specs.Models.{queue, serve, fills_under, turn_fills}
 use Rattle.law.specs.Turns.{Rules, given, active_number}
@@ -31,15 +31,15 @@ use Rattle.book.specs.Matches.{ComesNew, Matched}
 -- THE FILLS
 
 -- where all have something left, the ready ones are the eligible ones
-keep_ready : (q : Quote) (price : ℕ) (i : Incoming) (ps : List Intent) → Each (λ (p : Intent). 1 ≤ p.remaining) ps → keep (ready q price i) ps ≡ keep (eligible q price i) ps
+keep_ready : (q : Quote) (price : ℕ) (i : Incoming) (ps : List Intent) → AllByRecursion (λ (p : Intent). 1 ≤ p.remaining) ps → filter (ready q price i) ps ≡ filter (eligible q price i) ps
 unfolding ready
 keep_ready q price i [] h = refl
 keep_ready q price i (p ∷ ps) h =
     let live_p : live p ≡ true = lt-ltb 0 p.remaining h.0 in
-    ap (λ (b : Bool). cond (b && eligible q price i p) (p ∷ keep (ready q price i) ps) (keep (ready q price i) ps)) live_p
+    ap (λ (b : Bool). cond (b && eligible q price i p) (p ∷ filter (ready q price i) ps) (filter (ready q price i) ps)) live_p
     ∙ ap (λ (l : List Intent). cond (eligible q price i p) (p ∷ l) l) (keep_ready q price i ps h.1)
 
-module _ (rules : Rules) (a : Account) (i : Incoming) (some : Each (λ (p : Intent). 1 ≤ p.remaining) a.resting) where
+module _ (rules : Rules) (a : Account) (i : Incoming) (some : AllByRecursion (λ (p : Intent). 1 ≤ p.remaining) a.resting) where
   under : (o : Option Quote) → quote_in_force a i.security ≡ o → turn_under rules o i a.resting ≡ fills_under rules o a i
   under None e = refl
   under (Some q) e =
@@ -50,17 +50,17 @@ module _ (rules : Rules) (a : Account) (i : Incoming) (some : Each (λ (p : Inte
   pub in_place : turn_under rules (quote_in_force a i.security) i a.resting ≡ turn_fills rules a i
   in_place = under (quote_in_force a i.security) refl
 
-turn_active : (rules : Rules) (o : Option Quote) (i : Incoming) (ps : List Intent) → Each (λ (f : Fill). f.active ≡ active_number i.number) (turn_under rules o i ps)
+turn_active : (rules : Rules) (o : Option Quote) (i : Incoming) (ps : List Intent) → AllByRecursion (λ (f : Fill). f.active ≡ active_number i.number) (turn_under rules o i ps)
 turn_active rules None i ps = tt
-turn_active rules (Some q) i ps = serve_active (active_number i.number) (rules.price q i.side) rules.mark i.volume (queue (rules.ahead i.subscriber) (keep (ready q (rules.price q i.side) i) ps))
+turn_active rules (Some q) i ps = serve_active (active_number i.number) (rules.price q i.side) rules.mark i.volume (queue (rules.ahead i.subscriber) (filter (ready q (rules.price q i.side) i) ps))
 
 -- WHO IS LEFT
 
 -- intents that are passive only: what is closed up is what the account has left
-pub closed_lessen : (fs : List Fill) (ps : List Intent) → Each (λ (p : Intent). traded p.number fs ≡ given fs p.number) ps → keep live (map (relieved fs) ps) ≡ lessen fs ps
+pub closed_lessen : (fs : List Fill) (ps : List Intent) → AllByRecursion (λ (p : Intent). traded p.number fs ≡ given fs p.number) ps → filter live (map (relieved fs) ps) ≡ lessen fs ps
 closed_lessen fs [] h = refl
 closed_lessen fs (p ∷ ps) h =
-    ap (λ (n : ℕ). cond (ltb 0 (p.remaining - n)) (with_left p (p.remaining - n) ∷ keep live (map (relieved fs) ps)) (keep live (map (relieved fs) ps))) (sym h.0)
+    ap (λ (n : ℕ). cond (ltb 0 (p.remaining - n)) (with_left p (p.remaining - n) ∷ filter live (map (relieved fs) ps)) (filter live (map (relieved fs) ps))) (sym h.0)
     ∙ ap (λ (l : List Intent). cond (ltb 0 (p.remaining - traded p.number fs)) (with_left p (p.remaining - traded p.number fs) ∷ l) l) (closed_lessen fs ps h.1)
 
 -- a new party's number is that of no resting intent
@@ -129,19 +129,19 @@ module _ (rules : Rules) (m : Memory) (i : Incoming) (lawful : lawful_table m.co
   same_fills : turn_under rules o i ps ≡ fs
   same_fills = ap (λ (q : Option Quote). turn_under rules q i ps) quote ∙ in_place rules (account m) i (lawful_left 0 m.next ps intents)
 
-  passive_only : Each (λ (p : Intent). traded p.number fs ≡ given fs p.number) ps
+  passive_only : AllByRecursion (λ (p : Intent). traded p.number fs ≡ given fs p.number) ps
   passive_only =
-      let active : Each (λ (f : Fill). f.active ≡ active_number i.number) fs = subst (Each (λ (f : Fill). f.active ≡ active_number i.number)) same_fills (turn_active rules o i ps) in
+      let active : AllByRecursion (λ (f : Fill). f.active ≡ active_number i.number) fs = subst (AllByRecursion (λ (f : Fill). f.active ≡ active_number i.number)) same_fills (turn_active rules o i ps) in
       each_weaker _ _ (λ p h. traded_passive p.number fs (each_weaker _ _ (λ f e k. not_active i.number m.next p.number new h.0 h.1 (sym e ∙ k)) fs active)) ps (lawful_numbers 0 m.next ps intents)
 
   -- what a turn in place and a closing up come to
   pub matched : (table table' : List Intent) (page' : List Slip) (count' : ℕ) (r : Turned) → m.count ≤ length m.page →
       Handed (turn_under rules o i ps) i.volume ps (take m.count table) m.page page' r → drop m.count table ≡ drop m.count m.table →
-      count' ≡ length (keep live (take m.count table)) → table' ≡ keep live (take m.count table) ++ (replicate (m.count - count') blank_intent ++ drop m.count table) →
+      count' ≡ length (filter live (take m.count table)) → table' ≡ filter live (take m.count table) ++ (replicate (m.count - count') blank_intent ++ drop m.count table) →
       Matched rules i m (record { phase = m.phase; day = m.day; next = m.next; securities = m.securities; count = count'; table = table'; page = page' }) r
   matched table table' page' count' r room handed beyond counted closed =
       let rs : List Intent = lessen fs ps in
-      let left : keep live (take m.count table) ≡ rs = ap (keep live) handed.table ∙ ap (λ (gs : List Fill). keep live (map (relieved gs) ps)) same_fills ∙ closed_lessen fs ps passive_only in
+      let left : filter live (take m.count table) ≡ rs = ap (filter live) handed.table ∙ ap (λ (gs : List Fill). filter live (map (relieved gs) ps)) same_fills ∙ closed_lessen fs ps passive_only in
       let many = lawful_count m.count m.next m.table lawful in
       let count_is : count' ≡ length rs = counted ∙ ap length left in
       let table_is : table' ≡ laid_out rs m.table =

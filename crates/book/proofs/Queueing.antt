@@ -1,9 +1,9 @@
 -- The queue's head is the one that no other ready one is ahead of.
 use Rattle.std.proofs.Common.{◌≡◌, ℕ, zero, suc, ◌<◌, Bool, true, false, cond, not, List, [], ◌∷◌, length, set, sym, refl, ap, ◌∙◌, arith}
 use Rattle.std.proofs.lemmas.Bool.{cond-true, cond-false}
+use Rattle.std.specs.List.{filter, AllByRecursion}
 use Rattle.rules.specs.declared.intents.Standing.{Standing}
 use Rattle.rules.specs.declared.intents.Intent.{Intent}
-use Rattle.law.specs.Lists.{keep, Each}
 use Rattle.rules.specs.Intents.{standing}
 use Rattle.law.specs.Accounts.{with_left}
 use Rattle.law.specs.Models.{place, queue}
@@ -15,7 +15,7 @@ use Rattle.law.proofs.Places.{each_from_places}
 use Rattle.law.proofs.Queue.{each_queue}
 
 module _ (ahead : Standing → Standing → Bool) where
-  pub place_first : (p : Intent) (qs : List Intent) → Each (λ (q : Intent). ahead (standing p) (standing q) ≡ true) qs → place ahead p qs ≡ p ∷ qs
+  pub place_first : (p : Intent) (qs : List Intent) → AllByRecursion (λ (q : Intent). ahead (standing p) (standing q) ≡ true) qs → place ahead p qs ≡ p ∷ qs
   place_first p [] h = refl
   place_first p (q ∷ qs) h = cond-true (ahead (standing p) (standing q)) _ _ h.0
 
@@ -29,22 +29,22 @@ Best ahead t ps i = (k : ℕ) → k < length ps → (k ≡ i → ⊥) → t (at 
 
 module _ (ahead : Standing → Standing → Bool) (sided : Sided ahead) (t : Intent → Bool) (emptied : (p : Intent) → t (with_left p 0) ≡ false) where
   pub queue_head : (ps : List Intent) (i : ℕ) → i < length ps → t (at ps i) ≡ true → Distinct ps (length ps) → Best ahead t ps i →
-      queue ahead (keep t ps) ≡ at ps i ∷ queue ahead (keep t (set ps i (with_left (at ps i) 0)))
+      queue ahead (filter t ps) ≡ at ps i ∷ queue ahead (filter t (set ps i (with_left (at ps i) 0)))
   queue_head [] i l r d b = absurd (omega arith)
   queue_head (p ∷ ps) zero l r d b =
-      let behind : Each (λ (q : Intent). t q ≡ true → ahead (standing p) (standing q) ≡ true) ps =
+      let behind : AllByRecursion (λ (q : Intent). t q ≡ true → ahead (standing p) (standing q) ≡ true) ps =
       each_from_places blank_intent (λ (q : Intent). t q ≡ true → ahead (standing p) (standing q) ≡ true) ps
       (λ k h e. sided (standing p) (standing (at ps k)) (d 0 (suc k) (omega arith) (omega arith) (λ x. omega arith)) ∙ ap not (b (suc k) (omega arith) (λ x. omega arith) e)) in
-      let firsts : Each (λ (q : Intent). ahead (standing p) (standing q) ≡ true) (queue ahead (keep t ps)) =
-      each_queue ahead (λ (q : Intent). ahead (standing p) (standing q) ≡ true) (keep t ps)
+      let firsts : AllByRecursion (λ (q : Intent). ahead (standing p) (standing q) ≡ true) (queue ahead (filter t ps)) =
+      each_queue ahead (λ (q : Intent). ahead (standing p) (standing q) ≡ true) (filter t ps)
       (each_kept (λ (q : Intent). t q ≡ true → ahead (standing p) (standing q) ≡ true) (λ (q : Intent). ahead (standing p) (standing q) ≡ true) t (λ q e h. h e) ps behind) in
-      ap (queue ahead) (cond-true (t p) (p ∷ keep t ps) (keep t ps) r)
-      ∙ place_first ahead p (queue ahead (keep t ps)) firsts
-      ∙ sym (ap (λ (l : List Intent). p ∷ queue ahead l) (cond-false (t (with_left p 0)) (with_left p 0 ∷ keep t ps) (keep t ps) (emptied p)))
+      ap (queue ahead) (cond-true (t p) (p ∷ filter t ps) (filter t ps) r)
+      ∙ place_first ahead p (queue ahead (filter t ps)) firsts
+      ∙ sym (ap (λ (l : List Intent). p ∷ queue ahead l) (cond-false (t (with_left p 0)) (with_left p 0 ∷ filter t ps) (filter t ps) (emptied p)))
   queue_head (p ∷ ps) (suc i) l r d b =
       go (t p) refl (queue_head ps i (omega arith) r (λ j k x y z. d (suc j) (suc k) (omega arith) (omega arith) (λ e. z (omega arith))) (λ k x y. b (suc k) (omega arith) (λ e. y (omega arith))))
     where
-      go : (v : Bool) → t p ≡ v → queue ahead (keep t ps) ≡ at ps i ∷ queue ahead (keep t (set ps i (with_left (at ps i) 0))) →
-          queue ahead (cond v (p ∷ keep t ps) (keep t ps)) ≡ at ps i ∷ queue ahead (cond v (p ∷ keep t (set ps i (with_left (at ps i) 0))) (keep t (set ps i (with_left (at ps i) 0))))
+      go : (v : Bool) → t p ≡ v → queue ahead (filter t ps) ≡ at ps i ∷ queue ahead (filter t (set ps i (with_left (at ps i) 0))) →
+          queue ahead (cond v (p ∷ filter t ps) (filter t ps)) ≡ at ps i ∷ queue ahead (cond v (p ∷ filter t (set ps i (with_left (at ps i) 0))) (filter t (set ps i (with_left (at ps i) 0))))
       go true e ih = ap (place ahead p) ih ∙ cond-false (ahead (standing p) (standing (at ps i))) _ _ (b 0 (omega arith) (λ x. omega arith) e)
       go false e ih = ih

@@ -2,6 +2,7 @@
 use Rattle.std.proofs.Common.{◌≡◌, ℕ, zero, suc, ◌+◌, ◌-◌, ◌<◌, ◌≤◌, min, Bool, true, false, cond, eqb, ltb, List, [], ◌∷◌, map, length, set, sym, refl, ap, ◌∙◌, ⊎_elim, arith}
 use Rattle.std.proofs.lemmas.Bool.{cond_both, cond-true, cond-false, cases_lt, cases_eq, lt-ltb, ltb-true, ltb-false, eq-eqb, ne_eqb, and_parts}
 use Rattle.std.proofs.lemmas.List.{length-map, length-set, get_or-map, get_or-set_same, get_or-set_other, ext_get_or}
+use Rattle.std.specs.List.{filter}
 use Rattle.rules.specs.declared.quotes.Quote.{Quote}
 use Rattle.rules.specs.declared.intents.Standing.{Standing}
 use Rattle.rules.specs.declared.intents.Intent.{Intent}
@@ -9,7 +10,6 @@ use Rattle.rules.specs.declared.incoming.Incoming.{Incoming}
 use Rattle.rules.specs.declared.slips.Fill.{Fill}
 use Rattle.rules.specs.declared.slips.Slip.{Slip}
 use Rattle.rules.specs.declared.slips.Slip.TheVariants.{Filled}
-use Rattle.law.specs.Lists.{keep}
 use Rattle.law.specs.Accounts.{with_left, volume_of}
 use Rattle.law.specs.Turns.{active_number}
 use Rattle.law.specs.Models.{queue, serve}
@@ -70,7 +70,7 @@ module _ (ahead : Standing → Standing → Bool) (q : Quote) (price mark : ℕ)
   slip p v = record { active = active_number i.number; passive = p.number; volume = v; price = price; mark = mark }
 
   pub turn_spent : (left : ℕ) (ps : List Intent) → left ≡ 0 → turn_of ahead q price mark i left ps ≡ []
-  turn_spent left ps h = serve_spent (active_number i.number) price mark left h (queue ahead (keep (ready q price i) ps))
+  turn_spent left ps h = serve_spent (active_number i.number) price mark left h (queue ahead (filter (ready q price i) ps))
 
   pub turn_none : (left : ℕ) (ps : List Intent) → Nowhere (ready q price i) ps (length ps) → turn_of ahead q price mark i left ps ≡ []
   turn_none left ps h =
@@ -81,7 +81,7 @@ module _ (ahead : Standing → Standing → Bool) (q : Quote) (price mark : ℕ)
   turn_more sided left ps k some d best =
       let p : Intent = at ps k in
       let v : ℕ = min p.remaining left in
-      let rest : List Intent = queue ahead (keep (ready q price i) (set ps k (with_left p 0))) in
+      let rest : List Intent = queue ahead (filter (ready q price i) (set ps k (with_left p 0))) in
       ap (λ (l : List Intent). serve (active_number i.number) price mark left l) (queue_head ahead sided (ready q price i) (emptied q price i) ps k best.within best.ready_there d best.best)
       ∙ cond-true (ltb 0 left) (slip p v ∷ serve (active_number i.number) price mark (left - v) rest) [] (lt-ltb 0 left some)
       ∙ ap (λ (l : List Fill). slip p v ∷ l)
@@ -96,13 +96,13 @@ module _ (ahead : Standing → Standing → Bool) (q : Quote) (price mark : ℕ)
 pub alive_set : (ps : List Intent) (k w : ℕ) → k < length ps → 0 < (at ps k).remaining → alive (set ps k (with_left (at ps k) w)) + (1 - min w 1) ≡ alive ps
 alive_set [] k w h some = absurd (omega arith)
 alive_set (p ∷ ps) zero w h some =
-    let was : alive (p ∷ ps) ≡ suc (alive ps) = ap length (cond-true (live p) (p ∷ keep live ps) (keep live ps) (lt-ltb 0 p.remaining some)) in
-    cond_both (ltb 0 w) (with_left p w ∷ keep live ps) (keep live ps) (λ (l : List Intent). length l + (1 - min w 1) ≡ alive (p ∷ ps))
+    let was : alive (p ∷ ps) ≡ suc (alive ps) = ap length (cond-true (live p) (p ∷ filter live ps) (filter live ps) (lt-ltb 0 p.remaining some)) in
+    cond_both (ltb 0 w) (with_left p w ∷ filter live ps) (filter live ps) (λ (l : List Intent). length l + (1 - min w 1) ≡ alive (p ∷ ps))
     (λ e. omega (arith, ltb-true 0 w e)) (λ e. omega (arith, ltb-false 0 w e))
 alive_set (p ∷ ps) (suc k) w h some = go (live p) (alive_set ps k w (omega arith) some)
   where
     go : (b : Bool) → alive (set ps k (with_left (at ps k) w)) + (1 - min w 1) ≡ alive ps →
-        length (cond b (p ∷ keep live (set ps k (with_left (at ps k) w))) (keep live (set ps k (with_left (at ps k) w)))) + (1 - min w 1) ≡ length (cond b (p ∷ keep live ps) (keep live ps))
+        length (cond b (p ∷ filter live (set ps k (with_left (at ps k) w))) (filter live (set ps k (with_left (at ps k) w)))) + (1 - min w 1) ≡ length (cond b (p ∷ filter live ps) (filter live ps))
     go true ih = omega arith
     go false ih = ih
 

@@ -1,5 +1,6 @@
 -- A turn over the table in place: an emptied intent keeps its place, with nothing remaining, until the table is closed up.
 use Rattle.std.specs.Prelude.{◌≡◌, ℕ, ◌+◌, ◌-◌, ◌<◌, ◌≤◌, min, Bool, true, false, ◌&&◌, List, [], ◌∷◌, map, length, Some, None, Option, ◌≢◌, slice_set}
+use Rattle.std.specs.List.{filter}
 use Rattle.rules.specs.declared.incoming.Incoming.{Incoming}
 use Rattle.rules.specs.declared.intents.Intent.{Intent}
 use Rattle.rules.specs.declared.intents.Standing.{Standing}
@@ -10,7 +11,6 @@ use Rattle.rules.specs.declared.slips.Slip.TheVariants.{Filled}
 use Rattle.rules.specs.Eligibility.{eligible}
 use Rattle.rules.specs.Intents.{standing}
 use Rattle.law.specs.Accounts.{with_left, volume_of}
-use Rattle.law.specs.Lists.{keep}
 use Rattle.law.specs.Models.{queue, serve}
 use Rattle.law.specs.Turns.{Rules, given, active_number}
 use Rattle.ledger.specs.Places.{at, live}
@@ -36,7 +36,7 @@ Distinct ps n = (j k : ℕ) → j < n → k < n → (j ≢ k) → (at ps j).numb
 
 -- what a turn with this volume left gives, over a table with emptied intents in it
 abbrev pub turn_of : (Standing → Standing → Bool) → Quote → ℕ → ℕ → Incoming → ℕ → List Intent → List Fill
-turn_of ahead q price mark i left ps = serve (active_number i.number) price mark left (queue ahead (keep (ready q price i) ps))
+turn_of ahead q price mark i left ps = serve (active_number i.number) price mark left (queue ahead (filter (ready q price i) ps))
 
 -- what i's turn gives under a quote, if there is one
 abbrev pub turn_under : Rules → Option Quote → Incoming → List Intent → List Fill
@@ -54,7 +54,7 @@ written_from page place (f ∷ fs) = written_from (slice_set page place (Filled 
 
 -- how many have something left
 abbrev pub alive : List Intent → ℕ
-alive ps = length (keep live ps)
+alive ps = length (filter live ps)
 
 -- fs are handed out: a slip for each from the page's first place on, and each intent has what they leave of it
 pub record Handed (fs : List Fill) (volume : ℕ) (ps ps' : List Intent) (page page' : List Slip) (r : Turned) : Type 0 where

@@ -1,8 +1,8 @@
 //! A turn and a closing up among the first places of a longer table.
 ghost use Rattle.std.specs.Prelude.{◌≡◌, ◌+◌, ◌-◌, ◌<◌, ◌≤◌, ◌++◌, length, take, drop, replicate, if◌then◌else◌, nat_lt, slice_set};
+ghost use Rattle.std.specs.List.{filter};
 ghost use Rattle.book.specs.InPlace.{Distinct, turn_under, alive, Handed};
 ghost use Rattle.law.specs.Accounts.{with_left};
-ghost use Rattle.law.specs.Lists.{keep};
 ghost use Rattle.ledger.specs.Places.{live};
 ghost use Rattle.rules.specs.Blanks.{blank_intent};
 
@@ -37,8 +37,8 @@ pub(crate) fn turn_among<P: Priority, R: PriceRule>(
 /// Closes up the first `count` places, and answers how many intents have something left.
 pub(crate) fn close_among(table: &mut [Intent], count: usize) -> usize
     requires { count ≤ length table.old }
-    ensures count { result ≡ length (keep live (take count table.old)) }
-    ensures table { table.new ≡ keep live (take count table.old) ++ (replicate (count - result) blank_intent ++ drop count table.old) }
+    ensures count { result ≡ length (filter live (take count table.old)) }
+    ensures table { table.new ≡ filter live (take count table.old) ++ (replicate (count - result) blank_intent ++ drop count table.old) }
 {
     close_up(&mut table[0..count])
 }

@@ -1,9 +1,9 @@
 -- CHECKS: what is checked comes out as it is, or as the refusal of a test, whatever it is.
 use Rattle.std.proofs.Common.{◌≡◌, ℕ, true, cond, List, [], ◌∷◌, is_ok, Ok, Err, Result, sym, refl, ap, ◌∙◌, arith}
 use Rattle.std.proofs.lemmas.Bool.{cond_both, cond-true, cond-false}
+use Rattle.std.specs.List.{AllByRecursion}
 use Rattle.rules.specs.declared.refusals.Refusal.{Refusal}
 use Rattle.law.specs.Checks.{Check, checked}
-use Rattle.law.specs.Lists.{Each}
 use Rattle.law.specs.Outcomes.{unless_refused}
 
 -- nothing is both accepted and refused
@@ -11,14 +11,14 @@ pub ok_err : {A : Type 0} {x : A} {e : Refusal} → ◌≡◌ {A = Result A Refu
 ok_err {A} {x} {e} k = let z : ◌≡◌ {A = ℕ} 0 1 = cc in omega arith
 
 -- all tests hold of what comes out
-pub checked_passes : {A : Type 0} (cs : List Check) (x x' : A) → checked cs x ≡ Ok x' → Each (λ (c : Check). c.0 ≡ true) cs
+pub checked_passes : {A : Type 0} (cs : List Check) (x x' : A) → checked cs x ≡ Ok x' → AllByRecursion (λ (c : Check). c.0 ≡ true) cs
 checked_passes [] x x' h = tt
 checked_passes {A} (c ∷ cs) x x' h =
-    cond_both c.0 (checked cs x) (Err c.1) (λ (r : Result A Refusal). r ≡ Ok x' → Each (λ (c : Check). c.0 ≡ true) (c ∷ cs))
+    cond_both c.0 (checked cs x) (Err c.1) (λ (r : Result A Refusal). r ≡ Ok x' → AllByRecursion (λ (c : Check). c.0 ≡ true) (c ∷ cs))
     (λ e k. (e, checked_passes cs x x' k)) (λ _ k. absurd (ok_err (sym k))) h
 
 -- where all tests hold, it comes out as it is
-pub passes_checked : {A : Type 0} (cs : List Check) (x : A) → Each (λ (c : Check). c.0 ≡ true) cs → checked cs x ≡ Ok x
+pub passes_checked : {A : Type 0} (cs : List Check) (x : A) → AllByRecursion (λ (c : Check). c.0 ≡ true) cs → checked cs x ≡ Ok x
 passes_checked [] x h = refl
 passes_checked (c ∷ cs) x h = cond-true c.0 (checked cs x) (Err c.1) h.0 ∙ passes_checked cs x h.1
 

@@ -2,6 +2,7 @@
 -- The quote in force is a lawful one.
 use Rattle.std.proofs.Common.{◌≡◌, ℕ, Bool, true, false, ◌&&◌, T, List, [], Some, None, Option, refl}
 use Rattle.std.proofs.lemmas.Bool.{cond_both}
+use Rattle.std.specs.List.{filter, AllByRecursion}
 use Rattle.rules.specs.declared.intents.Side.{Side}
 use Rattle.rules.specs.declared.quotes.Quote.{Quote}
 use Rattle.rules.specs.declared.intents.Intent.{Intent}
@@ -9,7 +10,7 @@ use Rattle.rules.specs.declared.securities.Security.{Security}
 use Rattle.rules.specs.declared.incoming.Incoming.{Incoming}
 use Rattle.rules.specs.Eligibility.{within_limit, within_any_limit, eligible}
 use Rattle.rules.specs.Securities.{unlisted, is_regular, is_open}
-use Rattle.law.specs.Lists.{keep, Each, Pairwise}
+use Rattle.law.specs.Lists.{Pairwise}
 use Rattle.law.specs.Accounts.{Account, security, quote_in_force, eligible_for, find}
 use Rattle.law.specs.Turns.{LawfulIfAny, Sound}
 use Rattle.law.proofs.Lists.{each_getD, each_keep, pairwise_keep}
@@ -49,11 +50,11 @@ module _ (price : Quote → Side → ℕ) (a : Account) (i : Incoming) where
   eligible_none e = rw e
 
   -- under a quote in force, those that pass the test are
-  pub eligible_some : (q : Quote) → quote_in_force a i.security ≡ Some q → eligible_for price a i ≡ keep (eligible q (price q i.side) i) a.resting
+  pub eligible_some : (q : Quote) → quote_in_force a i.security ≡ Some q → eligible_for price a i ≡ filter (eligible q (price q i.side) i) a.resting
   eligible_some q e = rw e
 
   -- the eligible ones are a part of those that rest
-  eligible_part : (Q : List Intent → Type 0) → Q [] → ((t : Intent → Bool) → Q (keep t a.resting)) → Q (eligible_for price a i)
+  eligible_part : (Q : List Intent → Type 0) → Q [] → ((t : Intent → Bool) → Q (filter t a.resting)) → Q (eligible_for price a i)
   eligible_part Q none some = under (quote_in_force a i.security) refl
     where
       under : (o : Option Quote) → quote_in_force a i.security ≡ o → Q (eligible_for price a i)
@@ -61,13 +62,13 @@ module _ (price : Quote → Side → ℕ) (a : Account) (i : Incoming) where
       under (Some q) e = rw (eligible_some q e) (some (eligible q (price q i.side) i))
 
   -- what holds of all that rest holds of the eligible ones
-  pub each_eligible : (P : Intent → Type 0) → Each P a.resting → Each P (eligible_for price a i)
-  each_eligible P h = eligible_part (Each P) tt (λ t. each_keep P t a.resting h)
+  pub each_eligible : (P : Intent → Type 0) → AllByRecursion P a.resting → AllByRecursion P (eligible_for price a i)
+  each_eligible P h = eligible_part (AllByRecursion P) tt (λ t. each_keep P t a.resting h)
 
   module _ (sound : Sound a) where
     pub eligible_apart : Pairwise Apart (eligible_for price a i)
     eligible_apart = eligible_part (Pairwise Apart) tt (λ t. pairwise_keep Apart t a.resting (resting_apart a sound))
 
     -- each eligible intent is the resting one under its number
-    pub eligible_resting : Each (λ (p : Intent). find p.number a.resting ≡ Some p) (eligible_for price a i)
+    pub eligible_resting : AllByRecursion (λ (p : Intent). find p.number a.resting ≡ Some p) (eligible_for price a i)
     eligible_resting = each_eligible _ (find_each a.resting (resting_apart a sound))

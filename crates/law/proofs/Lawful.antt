@@ -3,6 +3,7 @@ use Rattle.std.proofs.Common.{◌≡◌, ℕ, ◌-◌, ◌<◌, ◌≤◌, true,
 use Rattle.std.proofs.lemmas.List.{length-take, length-drop, length-take-le, take-append-drop, take-take}
 use Rattle.std.proofs.lemmas.Bool.{ltb-true, leb-true, eqb-true, both_ways, and_parts}
 use Rattle.std.proofs.lemmas.Bool.Decides.{nat_tests}
+use Rattle.std.specs.List.{list_all, AllByRecursion}
 use Rattle.rules.specs.declared.intents.Intent.{Intent}
 use Rattle.rules.specs.declared.intents.Side.{Side}
 use Rattle.rules.specs.declared.intents.Side.TheVariants.{Buy, Sell}
@@ -10,7 +11,6 @@ use Rattle.rules.specs.Blanks.{blank_intent}
 use Rattle.rules.specs.declared.minimums.Minimums.{Minimums}
 use Rattle.rules.specs.Minimums.{no_minimums, asks_nothing}
 use Rattle.rules.specs.Intents.{in_range, is_buy, is_blank}
-use Rattle.law.specs.Lists.{every, Each}
 use Rattle.law.specs.Memories.{Memory, capacity, account, lawful_intents, lawful_table, laid_out}
 use Rattle.law.specs.Turns.{LawfulQuotes, Sound}
 use Rattle.law.proofs.Lists.{each_weaker}
@@ -34,12 +34,12 @@ lawful_first last next p ps h =
     record { range = one.0; above = ltb-true last p.number two.0; below = ltb-true p.number next three.0; others = three.1 }
 
 -- every intent is in range
-pub lawful_ranges : (last next : ℕ) (ps : List Intent) → lawful_intents last next ps ≡ true → Each (λ (p : Intent). in_range p ≡ true) ps
+pub lawful_ranges : (last next : ℕ) (ps : List Intent) → lawful_intents last next ps ≡ true → AllByRecursion (λ (p : Intent). in_range p ≡ true) ps
 lawful_ranges last next [] h = tt
 lawful_ranges last next (p ∷ ps) h = let first = lawful_first last next p ps h in (first.range, lawful_ranges p.number next ps first.others)
 
 -- every number is above the last one before, and below the next one to be given
-pub lawful_numbers : (last next : ℕ) (ps : List Intent) → lawful_intents last next ps ≡ true → Each (λ (p : Intent). (last < p.number) × (p.number < next)) ps
+pub lawful_numbers : (last next : ℕ) (ps : List Intent) → lawful_intents last next ps ≡ true → AllByRecursion (λ (p : Intent). (last < p.number) × (p.number < next)) ps
 lawful_numbers last next [] h = tt
 lawful_numbers last next (p ∷ ps) h =
     let first = lawful_first last next p ps h in
@@ -57,7 +57,7 @@ pub in_range_left : (p : Intent) → in_range p ≡ true → 1 ≤ p.remaining
 in_range_left p h = grind (arith, nat_tests)
 
 -- every intent has something left
-pub lawful_left : (last next : ℕ) (ps : List Intent) → lawful_intents last next ps ≡ true → Each (λ (p : Intent). 1 ≤ p.remaining) ps
+pub lawful_left : (last next : ℕ) (ps : List Intent) → lawful_intents last next ps ≡ true → AllByRecursion (λ (p : Intent). 1 ≤ p.remaining) ps
 lawful_left last next ps h = each_weaker _ _ in_range_left ps (lawful_ranges last next ps h)
 
 -- BLANKS
@@ -97,9 +97,9 @@ blank_is p h =
     }
 
 -- places that all pass it are so many blanks
-pub blanks_are : (ps : List Intent) → every is_blank ps ≡ true → ps ≡ replicate (length ps) blank_intent
+pub blanks_are : (ps : List Intent) → list_all is_blank ps ≡ true → ps ≡ replicate (length ps) blank_intent
 blanks_are [] h = refl
-blanks_are (p ∷ ps) h = let parts = and_parts (is_blank p) (every is_blank ps) h in ap₂ ◌∷◌ (blank_is p parts.0) (blanks_are ps parts.1)
+blanks_are (p ∷ ps) h = let parts = and_parts (is_blank p) (list_all is_blank ps) h in ap₂ ◌∷◌ (blank_is p parts.0) (blanks_are ps parts.1)
 
 -- A LAWFUL TABLE
 
@@ -107,7 +107,7 @@ blanks_are (p ∷ ps) h = let parts = and_parts (is_blank p) (every is_blank ps)
 pub record LawfulTable (count next : ℕ) (table : List Intent) : Type 0 where
   pub fits : count ≤ capacity table
   pub intents : lawful_intents 0 next (take count table) ≡ true
-  pub blanks : every is_blank (drop count (take (capacity table) table)) ≡ true
+  pub blanks : list_all is_blank (drop count (take (capacity table) table)) ≡ true
 
 pub table_parts : (count next : ℕ) (table : List Intent) → lawful_table count next table ≡ true → LawfulTable count next table
 table_parts count next table h =

@@ -1,10 +1,11 @@
 -- What fills leave of the intents, and what is left of one by its number.
 use Rattle.std.proofs.Common.{◌≡◌, ℕ, ◌+◌, ◌-◌, ◌≤◌, Bool, true, false, cond, eqb, ltb, List, [], ◌∷◌, ◌++◌, length, Some, sym, refl, ap, ◌∙◌, arith}
 use Rattle.std.proofs.lemmas.Bool.{cond_both, cond-true, cond-false, eqb-true, eq-eqb, ne_eqb, ltb-false}
+use Rattle.std.specs.List.{AllByRecursion}
 use Rattle.rules.specs.declared.intents.Intent.{Intent}
 use Rattle.rules.specs.declared.slips.Fill.{Fill}
 use Rattle.law.specs.Accounts.{traded, with_left, lessen, left_of, find}
-use Rattle.law.specs.Lists.{Each, Pairwise}
+use Rattle.law.specs.Lists.{Pairwise}
 use Rattle.law.proofs.Lists.{each_weaker, total_none}
 use Rattle.law.proofs.Numbers.{Apart, none_some}
 
@@ -27,16 +28,16 @@ lessen_short fs (p ∷ ps) =
     cond_both (ltb 0 (p.remaining - traded p.number fs)) (with_left p (p.remaining - traded p.number fs) ∷ lessen fs ps) (lessen fs ps) (λ (l : List Intent). length l ≤ length (p ∷ ps)) (λ _. omega arith) (λ _. omega arith)
 
 -- a fact of each that knows nothing of what remains stays
-pub each_lessen : (P : Intent → Type 0) → ((p : Intent) (v : ℕ) → P p → P (with_left p v)) → (fs : List Fill) (ps : List Intent) → Each P ps → Each P (lessen fs ps)
+pub each_lessen : (P : Intent → Type 0) → ((p : Intent) (v : ℕ) → P p → P (with_left p v)) → (fs : List Fill) (ps : List Intent) → AllByRecursion P ps → AllByRecursion P (lessen fs ps)
 each_lessen P f fs [] h = tt
 each_lessen P f fs (p ∷ ps) h =
     let left : ℕ = p.remaining - traded p.number fs in
     let rest = each_lessen P f fs ps h.1 in
-    cond_both (ltb 0 left) (with_left p left ∷ lessen fs ps) (lessen fs ps) (Each P) (λ _. (f p left h.0, rest)) (λ _. rest)
+    cond_both (ltb 0 left) (with_left p left ∷ lessen fs ps) (lessen fs ps) (AllByRecursion P) (λ _. (f p left h.0, rest)) (λ _. rest)
 
 -- WHAT IS LEFT OF ONE
 
-pub left_none : (n : ℕ) (ps : List Intent) → Each (λ (p : Intent). p.number ≡ n → ⊥) ps → left_of n ps ≡ 0
+pub left_none : (n : ℕ) (ps : List Intent) → AllByRecursion (λ (p : Intent). p.number ≡ n → ⊥) ps → left_of n ps ≡ 0
 left_none n ps h = total_none _ ps (each_weaker _ _ (λ p k. cond-false (eqb p.number n) _ 0 (ne_eqb _ _ k)) ps h)
 
 pub left_append : (n : ℕ) (ps qs : List Intent) → left_of n (ps ++ qs) ≡ left_of n ps + left_of n qs

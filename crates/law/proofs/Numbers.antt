@@ -1,8 +1,9 @@
 -- Intents by their numbers: what `find` gives, where numbers differ or rise.
 use Rattle.std.proofs.Common.{◌≡◌, ℕ, ◌<◌, eqb, List, [], ◌∷◌, Some, None, Option, sym, refl, ap, ◌∙◌, subst, arith}
 use Rattle.std.proofs.lemmas.Bool.{cond_both, cond-true, cond-false, eqb-true, eq-eqb, ne_eqb}
+use Rattle.std.specs.List.{AllByRecursion}
 use Rattle.rules.specs.declared.intents.Intent.{Intent}
-use Rattle.law.specs.Lists.{Each, Pairwise}
+use Rattle.law.specs.Lists.{Pairwise}
 use Rattle.law.specs.Accounts.{find}
 use Rattle.law.proofs.Lists.{each_join, pairwise_weaker}
 
@@ -30,7 +31,7 @@ find_number n (q ∷ qs) p e =
     (λ t k. let same : q ≡ p = cc in ap (λ (x : Intent). x.number) (sym same) ∙ eqb-true q.number n t) (λ _ k. find_number n qs p k) e
 
 -- a fact of each holds of the one that is found
-pub each_find : (P : Intent → Type 0) (n : ℕ) (ps : List Intent) (p : Intent) → Each P ps → find n ps ≡ Some p → P p
+pub each_find : (P : Intent → Type 0) (n : ℕ) (ps : List Intent) (p : Intent) → AllByRecursion P ps → find n ps ≡ Some p → P p
 each_find P n [] p h e = absurd (none_some p e)
 each_find P n (q ∷ qs) p h e =
     cond_both (eqb q.number n) (Some q) (find n qs) (λ (o : Option Intent). o ≡ Some p → P p)
@@ -45,10 +46,10 @@ pub find_first : (n : ℕ) (q : Intent) (qs : List Intent) → q.number ≡ n �
 find_first n q qs e = cond-true (eqb q.number n) (Some q) (find n qs) (eq-eqb _ _ e)
 
 -- each intent is the one under its number
-pub find_each : (ps : List Intent) → Pairwise Apart ps → Each (λ (p : Intent). find p.number ps ≡ Some p) ps
+pub find_each : (ps : List Intent) → Pairwise Apart ps → AllByRecursion (λ (p : Intent). find p.number ps ≡ Some p) ps
 find_each [] h = tt
 find_each (q ∷ qs) h = (find_first q.number q qs refl, each_join _ _ _ (λ p d e. find_later p.number q qs d ∙ e) qs h.0 (find_each qs h.1))
 
 -- what is found in one list is found in another that has the same under each number
-pub find_in : (ps qs : List Intent) → Each (λ (p : Intent). find p.number qs ≡ Some p) ps → (n : ℕ) (p : Intent) → find n ps ≡ Some p → find n qs ≡ Some p
+pub find_in : (ps qs : List Intent) → AllByRecursion (λ (p : Intent). find p.number qs ≡ Some p) ps → (n : ℕ) (p : Intent) → find n ps ≡ Some p → find n qs ≡ Some p
 find_in ps qs h n p e = ap (λ (m : ℕ). find m qs) (sym (find_number n ps p e)) ∙ each_find _ n ps p h e

@@ -2,10 +2,11 @@
 -- `Orderly` is what it asks of a priority.
 use Rattle.std.proofs.Common.{◌≡◌, ℕ, ◌+◌, Bool, true, false, not, List, [], ◌∷◌, sym, refl, ap, ◌∙◌, arith}
 use Rattle.std.proofs.lemmas.Bool.{cond_both}
+use Rattle.std.specs.List.{AllByRecursion}
 use Rattle.rules.specs.declared.intents.Standing.{Standing}
 use Rattle.rules.specs.declared.intents.Intent.{Intent}
 use Rattle.rules.specs.Intents.{standing}
-use Rattle.law.specs.Lists.{total, Each, Pairwise}
+use Rattle.law.specs.Lists.{total, Pairwise}
 use Rattle.law.specs.Models.{place, queue}
 use Rattle.law.proofs.Lists.{each_join, pairwise_weaker}
 use Rattle.law.proofs.Numbers.{Apart}
@@ -21,26 +22,26 @@ pub record Orderly (ahead : Standing → Standing → Bool) : Type 0 where
 
 module _ (ahead : Standing → Standing → Bool) where
   -- what holds of the new one and of all others holds of each in the line
-  pub each_place : (P : Intent → Type 0) (p : Intent) (qs : List Intent) → P p → Each P qs → Each P (place ahead p qs)
+  pub each_place : (P : Intent → Type 0) (p : Intent) (qs : List Intent) → P p → AllByRecursion P qs → AllByRecursion P (place ahead p qs)
   each_place P p [] h hs = (h, tt)
   each_place P p (q ∷ qs) h hs =
       let rest = each_place P p qs h hs.1 in
-      cond_both (ahead (standing p) (standing q)) (p ∷ (q ∷ qs)) (q ∷ place ahead p qs) (Each P) (λ _. (h, hs)) (λ _. (hs.0, rest))
+      cond_both (ahead (standing p) (standing q)) (p ∷ (q ∷ qs)) (q ∷ place ahead p qs) (AllByRecursion P) (λ _. (h, hs)) (λ _. (hs.0, rest))
 
   -- the queue holds nobody else
-  pub each_queue : (P : Intent → Type 0) (ps : List Intent) → Each P ps → Each P (queue ahead ps)
+  pub each_queue : (P : Intent → Type 0) (ps : List Intent) → AllByRecursion P ps → AllByRecursion P (queue ahead ps)
   each_queue P [] h = tt
   each_queue P (p ∷ ps) h = each_place P p (queue ahead ps) h.0 (each_queue P ps h.1)
 
   -- and the other way round
-  pub place_each : (P : Intent → Type 0) (p : Intent) (qs : List Intent) → Each P (place ahead p qs) → P p × Each P qs
+  pub place_each : (P : Intent → Type 0) (p : Intent) (qs : List Intent) → AllByRecursion P (place ahead p qs) → P p × AllByRecursion P qs
   place_each P p [] h = h
   place_each P p (q ∷ qs) h =
-      cond_both (ahead (standing p) (standing q)) (p ∷ (q ∷ qs)) (q ∷ place ahead p qs) (λ (l : List Intent). Each P l → P p × Each P (q ∷ qs)) (λ _ k. k)
+      cond_both (ahead (standing p) (standing q)) (p ∷ (q ∷ qs)) (q ∷ place ahead p qs) (λ (l : List Intent). AllByRecursion P l → P p × AllByRecursion P (q ∷ qs)) (λ _ k. k)
       (λ _ k. let rest = place_each P p qs k.1 in (rest.0, (k.0, rest.1))) h
 
   -- the queue leaves nobody out
-  pub queue_each : (P : Intent → Type 0) (ps : List Intent) → Each P (queue ahead ps) → Each P ps
+  pub queue_each : (P : Intent → Type 0) (ps : List Intent) → AllByRecursion P (queue ahead ps) → AllByRecursion P ps
   queue_each P [] h = tt
   queue_each P (p ∷ ps) h = let parts = place_each P p (queue ahead ps) h in (parts.0, queue_each P ps parts.1)
 
@@ -67,7 +68,7 @@ module _ (ahead : Standing → Standing → Bool) (order : Orderly ahead) where
   pub behind_not : (p q : Intent) → Before ahead p q → ahead (standing q) (standing p) ≡ false
   behind_not p q h = order.either (standing q) (standing p) (λ k. h.0 (sym k)) ∙ ap not h.1
 
-  pub ordered_place : (p : Intent) (qs : List Intent) → Each (Apart p) qs → Pairwise (Before ahead) qs → Pairwise (Before ahead) (place ahead p qs)
+  pub ordered_place : (p : Intent) (qs : List Intent) → AllByRecursion (Apart p) qs → Pairwise (Before ahead) qs → Pairwise (Before ahead) (place ahead p qs)
   ordered_place p [] h k = (tt, tt)
   ordered_place p (q ∷ qs) h k =
       let rest = ordered_place p qs h.1 k.1 in

@@ -2,11 +2,12 @@
 -- A leading group of the queue gets all that there is, up to all that it has left.
 use Rattle.std.proofs.Common.{◌≡◌, ℕ, ◌+◌, ◌-◌, ◌<◌, ◌≤◌, min, Bool, cond, ◌||◌, eqb, ltb, List, [], ◌∷◌, sym, refl, ap, ◌∙◌, arith}
 use Rattle.std.proofs.lemmas.Bool.{cond_both, cond-true, cond-false, eq-eqb, ne_eqb, ltb-true, ltb-false, le-ltb, or_left, or_right, or_from}
+use Rattle.std.specs.List.{filter, AllByRecursion}
 use Rattle.rules.specs.declared.intents.Standing.{Standing}
 use Rattle.rules.specs.declared.intents.Intent.{Intent}
 use Rattle.rules.specs.declared.slips.Fill.{Fill}
 use Rattle.rules.specs.Intents.{standing}
-use Rattle.law.specs.Lists.{keep, total, Each, Pairwise}
+use Rattle.law.specs.Lists.{total, Pairwise}
 use Rattle.law.specs.Turns.{handed, leading_group, given}
 use Rattle.law.specs.Models.{serve}
 use Rattle.law.proofs.Lists.{each_all, each_weaker, each_join, each_keep, keep_none, total_same}
@@ -25,14 +26,14 @@ module _ (active price mark : ℕ) where
 
   -- a fact of the intents in the queue is one of their slips
   pub each_serve : (P : Intent → Type 0) (Q : Fill → Type 0) → ((p : Intent) (left : ℕ) → 0 < left → P p → Q (slip p (min p.remaining left))) →
-      (left : ℕ) (qs : List Intent) → Each P qs → Each Q (serve active price mark left qs)
+      (left : ℕ) (qs : List Intent) → AllByRecursion P qs → AllByRecursion Q (serve active price mark left qs)
   each_serve P Q f left [] h = tt
   each_serve P Q f left (p ∷ ps) h =
       let rest = each_serve P Q f (left - min p.remaining left) ps h.1 in
-      cond_both (ltb 0 left) (slip p (min p.remaining left) ∷ serve active price mark (left - min p.remaining left) ps) [] (Each Q) (λ e. (f p left (ltb-true 0 left e) h.0, rest)) (λ _. tt)
+      cond_both (ltb 0 left) (slip p (min p.remaining left) ∷ serve active price mark (left - min p.remaining left) ps) [] (AllByRecursion Q) (λ e. (f p left (ltb-true 0 left e) h.0, rest)) (λ _. tt)
 
   -- every slip carries the active number
-  pub serve_active : (left : ℕ) (qs : List Intent) → Each (λ (f : Fill). f.active ≡ active) (serve active price mark left qs)
+  pub serve_active : (left : ℕ) (qs : List Intent) → AllByRecursion (λ (f : Fill). f.active ≡ active) (serve active price mark left qs)
   serve_active left qs = each_serve (λ p. Unit {0}) (λ f. f.active ≡ active) (λ p v _ _. refl) left qs (each_all (λ p. Unit {0}) (λ p. tt) qs)
 
   -- and a fact of two of them is one of their slips
@@ -67,11 +68,11 @@ module _ (active price mark : ℕ) where
         omega arith
 
   -- who is not in the queue gets nothing
-  pub given_none : (n : ℕ) (left : ℕ) (qs : List Intent) → Each (λ (q : Intent). q.number ≡ n → ⊥) qs → given (serve active price mark left qs) n ≡ 0
+  pub given_none : (n : ℕ) (left : ℕ) (qs : List Intent) → AllByRecursion (λ (q : Intent). q.number ≡ n → ⊥) qs → given (serve active price mark left qs) n ≡ 0
   given_none n left [] h = refl
   given_none n left (p ∷ ps) h = given_later left p ps n h.0 ∙ given_none n (left - min p.remaining left) ps h.1
 
-  module _ (left : ℕ) (p : Intent) (ps : List Intent) (apart : Each (Apart p) ps) where
+  module _ (left : ℕ) (p : Intent) (ps : List Intent) (apart : AllByRecursion (Apart p) ps) where
     pub given_first : given (serve active price mark left (p ∷ ps)) p.number ≡ min p.remaining left
     given_first =
         let more = given_more left p ps p.number in
@@ -79,17 +80,17 @@ module _ (active price mark : ℕ) where
         let others = given_none p.number (left - min p.remaining left) ps (each_weaker (Apart p) (λ (q : Intent). q.number ≡ p.number → ⊥) (λ q h k. h (sym k)) ps apart) in
         omega arith
 
-    pub given_others : Each (λ (q : Intent). given (serve active price mark left (p ∷ ps)) q.number ≡ given (serve active price mark (left - min p.remaining left) ps) q.number) ps
+    pub given_others : AllByRecursion (λ (q : Intent). given (serve active price mark left (p ∷ ps)) q.number ≡ given (serve active price mark (left - min p.remaining left) ps) q.number) ps
     given_others = each_weaker (Apart p) _ (λ q h. given_later left p ps q.number h) ps apart
 
     -- the same for any part of the others
-    pub handed_others : (t : Intent → Bool) → handed (given (serve active price mark left (p ∷ ps))) (keep t ps) ≡ handed (given (serve active price mark (left - min p.remaining left) ps)) (keep t ps)
-    handed_others t = total_same _ _ (keep t ps) (each_keep _ t ps given_others)
+    pub handed_others : (t : Intent → Bool) → handed (given (serve active price mark left (p ∷ ps))) (filter t ps) ≡ handed (given (serve active price mark (left - min p.remaining left) ps)) (filter t ps)
+    handed_others t = total_same _ _ (filter t ps) (each_keep _ t ps given_others)
 
   -- THE ALLOTMENT
 
   -- nobody gets more than it has left
-  pub served_each : (left : ℕ) (qs : List Intent) → Pairwise Apart qs → Each (λ (q : Intent). given (serve active price mark left qs) q.number ≤ q.remaining) qs
+  pub served_each : (left : ℕ) (qs : List Intent) → Pairwise Apart qs → AllByRecursion (λ (q : Intent). given (serve active price mark left qs) q.number ≤ q.remaining) qs
   served_each left [] h = tt
   served_each left (p ∷ ps) h =
       let first = given_first left p ps h.0 in
@@ -112,7 +113,7 @@ leads ahead g p = eqb p.number g.number || ahead (standing p) (standing g)
 
 module _ (ahead : Standing → Standing → Bool) (order : Orderly ahead) where
   -- the foremost leads alone
-  pub group_first : (p : Intent) (ps : List Intent) → Each (Before ahead p) ps → leading_group ahead p (p ∷ ps) ≡ p ∷ []
+  pub group_first : (p : Intent) (ps : List Intent) → AllByRecursion (Before ahead p) ps → leading_group ahead p (p ∷ ps) ≡ p ∷ []
   group_first p ps h =
       cond-true (leads ahead p p) (p ∷ leading_group ahead p ps) (leading_group ahead p ps) (or_left _ _ (eq-eqb p.number p.number refl)) ∙
       ap (λ (l : List Intent). p ∷ l) (keep_none (leads ahead p) ps (each_weaker _ _ (λ q b. or_from _ _ (ne_eqb _ _ (λ e. b.0 (sym e))) (behind_not ahead order p q b)) ps h))
@@ -123,10 +124,10 @@ module _ (ahead : Standing → Standing → Bool) (order : Orderly ahead) where
 
   -- a leading group gets all that there is, up to all that it has left
   pub groups_served : (active price mark left : ℕ) (qs : List Intent) → Pairwise (Before ahead) qs →
-      Each (λ (g : Intent). handed (given (serve active price mark left qs)) (leading_group ahead g qs) ≡ min left (total (λ (p : Intent). p.remaining) (leading_group ahead g qs))) qs
+      AllByRecursion (λ (g : Intent). handed (given (serve active price mark left qs)) (leading_group ahead g qs) ≡ min left (total (λ (p : Intent). p.remaining) (leading_group ahead g qs))) qs
   groups_served active price mark left [] h = tt
   groups_served active price mark left (p ∷ ps) h =
-      let apart : Each (Apart p) ps = each_weaker (Before ahead p) (Apart p) (λ q b. b.0) ps h.0 in
+      let apart : AllByRecursion (Apart p) ps = each_weaker (Before ahead p) (Apart p) (λ q b. b.0) ps h.0 in
       let first = given_first active price mark left p ps apart in
       let rest = groups_served active price mark (left - min p.remaining left) ps h.1 in (
         rw (group_first p ps h.0) (omega arith),

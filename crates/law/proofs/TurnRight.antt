@@ -1,6 +1,7 @@
 -- THE TURN IS RIGHT: the model's fills of a turn are those that the law asks for.
 -- `turn_right` is the end; before it, that the served queue is an allotment and the most for each leading group.
 use Rattle.std.proofs.Common.{◌≡◌, ℕ, ◌≤◌, min, Bool, T, List, [], Some, None, Option, sym, refl, ◌∙◌, subst₂, arith}
+use Rattle.std.specs.List.{filter, AllByRecursion}
 use Rattle.rules.specs.declared.quotes.Quote.{Quote}
 use Rattle.rules.specs.declared.intents.Standing.{Standing}
 use Rattle.rules.specs.declared.intents.Intent.{Intent}
@@ -8,7 +9,7 @@ use Rattle.rules.specs.declared.slips.Fill.{Fill}
 use Rattle.rules.specs.declared.incoming.Incoming.{Incoming}
 use Rattle.rules.specs.Eligibility.{eligible}
 use Rattle.rules.specs.Intents.{standing}
-use Rattle.law.specs.Lists.{keep, total, Each, Pairwise}
+use Rattle.law.specs.Lists.{total, Pairwise}
 use Rattle.law.specs.Accounts.{Account, quote_in_force, eligible_for, find}
 use Rattle.law.specs.Turns.{Rules, LawfulRules, handed, Allotment, leading_group, given, active_number, Priced, DueSlip, Precedes, Turn, LawfulIfAny, Sound}
 use Rattle.law.specs.Models.{queue, serve, fills_under, turn_fills}
@@ -19,17 +20,17 @@ use Rattle.law.proofs.Serve.{slip, each_serve, pairwise_serve, served_each, serv
 use Rattle.law.proofs.Eligibility.{in_force_lawful, eligible_within, eligible_none, eligible_some, each_eligible, eligible_apart, eligible_resting}
 
 -- the queue hands the same to any part
-pub part_queue : (ahead : Standing → Standing → Bool) (f : Intent → ℕ) (t : Intent → Bool) (ps : List Intent) → total f (keep t (queue ahead ps)) ≡ total f (keep t ps)
+pub part_queue : (ahead : Standing → Standing → Bool) (f : Intent → ℕ) (t : Intent → Bool) (ps : List Intent) → total f (filter t (queue ahead ps)) ≡ total f (filter t ps)
 part_queue ahead f t ps = total_keep f t (queue ahead ps) ∙ total_queue ahead _ ps ∙ sym (total_keep f t ps)
 
 abbrev pub remaining_of : List Intent → ℕ
 remaining_of ps = total (λ (p : Intent). p.remaining) ps
 
 -- no way to hand out shares gives a part more than there is, or more than it has left
-pub part_capped : (volume : ℕ) (ps : List Intent) (give : ℕ → ℕ) (t : Intent → Bool) → Allotment volume ps give → handed give (keep t ps) ≤ min volume (remaining_of (keep t ps))
+pub part_capped : (volume : ℕ) (ps : List Intent) (give : ℕ → ℕ) (t : Intent → Bool) → Allotment volume ps give → handed give (filter t ps) ≤ min volume (remaining_of (filter t ps))
 part_capped volume ps give t h =
     let part = total_part (λ (p : Intent). give p.number) t ps in
-    let each = total_least (λ (p : Intent). give p.number) (λ (p : Intent). p.remaining) (keep t ps) (each_keep _ t ps h.each) in
+    let each = total_least (λ (p : Intent). give p.number) (λ (p : Intent). p.remaining) (filter t ps) (each_keep _ t ps h.each) in
     omega (arith, h.all)
 
 module _ (ahead : Standing → Standing → Bool) (order : Orderly ahead)
@@ -45,7 +46,7 @@ module _ (ahead : Standing → Standing → Bool) (order : Orderly ahead)
   }
 
   -- each leading group gets all that there is, up to all that it has left
-  pub served_groups : Each (λ (g : Intent). handed (given served) (leading_group ahead g ps) ≡ min volume (remaining_of (leading_group ahead g ps))) ps
+  pub served_groups : AllByRecursion (λ (g : Intent). handed (given served) (leading_group ahead g ps) ≡ min volume (remaining_of (leading_group ahead g ps))) ps
   served_groups =
       queue_each ahead _ ps (each_weaker _ _ (λ g k.
       let handed_same = part_queue ahead (λ (p : Intent). given served p.number) (leads ahead g) ps in
@@ -53,7 +54,7 @@ module _ (ahead : Standing → Standing → Bool) (order : Orderly ahead)
       omega arith) (queue ahead ps) (groups_served ahead order active price mark volume (queue ahead ps) (ordered_queue ahead order ps apart)))
 
   -- so no allotment gives it more
-  pub served_most : (give : ℕ → ℕ) → Allotment volume ps give → Each (λ (g : Intent). handed give (leading_group ahead g ps) ≤ handed (given served) (leading_group ahead g ps)) ps
+  pub served_most : (give : ℕ → ℕ) → Allotment volume ps give → AllByRecursion (λ (g : Intent). handed give (leading_group ahead g ps) ≤ handed (given served) (leading_group ahead g ps)) ps
   served_most give h = each_weaker _ _ (λ g k. let cap = part_capped volume ps give (leads ahead g) h in omega arith) ps served_groups
 
 -- a lawful priority lines up those that it is asked of
@@ -89,20 +90,20 @@ module _ (rules : Rules) (a : Account) (i : Incoming) (lawful : LawfulRules rule
     fills = fills_under rules (Some q) a i
 
     -- who stands among the eligible passes the test
-    passives_eligible : Each (λ (p : Intent). T (eligible q price i p)) passives
-    passives_eligible = rw (eligible_some rules.price a i q e) (each_weaker _ _ (λ p t. T_true t) (keep (eligible q price i) a.resting) (each_passes (eligible q price i) a.resting))
+    passives_eligible : AllByRecursion (λ (p : Intent). T (eligible q price i p)) passives
+    passives_eligible = rw (eligible_some rules.price a i q e) (each_weaker _ _ (λ p t. T_true t) (filter (eligible q price i) a.resting) (each_passes (eligible q price i) a.resting))
 
     -- p has a place in the line
     abbrev Lined : Intent → Type 0
     Lined p = (1 ≤ p.remaining) × T (eligible q price i p) × (find p.number passives ≡ Some p)
 
-    lined : Each Lined line
+    lined : AllByRecursion Lined line
     lined =
         each_queue ahead Lined passives
         (each_join _ _ Lined (λ p l w. (l, w.0, w.1)) passives (each_eligible rules.price a i _ sound.something_left)
         (each_join _ _ (λ (p : Intent). T (eligible q price i p) × (find p.number passives ≡ Some p)) (λ p t f. (t, f)) passives passives_eligible (find_each passives (eligible_apart rules.price a i sound))))
 
-    found : Each (λ (p : Intent). find p.number a.resting ≡ Some p) line
+    found : AllByRecursion (λ (p : Intent). find p.number a.resting ≡ Some p) line
     found = each_queue ahead _ passives (eligible_resting rules.price a i sound)
 
     -- the slip of anybody in the line is at the price, within the quote and both limits

@@ -2,12 +2,13 @@
 -- `turn_unique` compares two turns, `turn_only` says that a turn's fills are the model's.
 use Rattle.std.proofs.Common.{◌≡◌, ℕ, ◌<◌, Bool, cond, eqb, ltb, List, [], ◌∷◌, Some, None, Option, sym, refl, ap, ◌∙◌, ap₂, ⊎_elim, arith}
 use Rattle.std.proofs.lemmas.Bool.{cond-true, cond-false, cases_eq, eq-eqb, ne_eqb, lt-ltb, le-ltb}
+use Rattle.std.specs.List.{AllByRecursion}
 use Rattle.rules.specs.declared.quotes.Quote.{Quote}
 use Rattle.rules.specs.declared.intents.Standing.{Standing}
 use Rattle.rules.specs.declared.intents.Intent.{Intent}
 use Rattle.rules.specs.declared.slips.Fill.{Fill}
 use Rattle.rules.specs.declared.incoming.Incoming.{Incoming}
-use Rattle.law.specs.Lists.{Each, Pairwise}
+use Rattle.law.specs.Lists.{Pairwise}
 use Rattle.law.specs.Accounts.{Account, quote_in_force, eligible_for, find}
 use Rattle.law.specs.Turns.{Rules, LawfulRules, handed, leading_group, given, active_number, DueSlip, Precedes, Turn, OnlyTurn, Sound}
 use Rattle.law.specs.Models.{queue, turn_fills}
@@ -27,7 +28,7 @@ slips_along active price mark give (p ∷ ps) =
 
 module _ (active price mark : ℕ) where
   -- equal shares have equal slips
-  pub along_same : (x y : ℕ → ℕ) (ps : List Intent) → Each (λ (p : Intent). x p.number ≡ y p.number) ps → slips_along active price mark x ps ≡ slips_along active price mark y ps
+  pub along_same : (x y : ℕ → ℕ) (ps : List Intent) → AllByRecursion (λ (p : Intent). x p.number ≡ y p.number) ps → slips_along active price mark x ps ≡ slips_along active price mark y ps
   along_same x y [] h = refl
   along_same x y (p ∷ ps) h = rw (h.0, along_same x y ps h.1)
 
@@ -45,12 +46,12 @@ module _ (active price mark : ℕ) where
   slip_is p f ps d e = λ j. record { active = sym d.active_is j; passive = sym e j; volume = f.volume; price = sym d.price_is j; mark = sym d.mark_is j }
 
   -- where nobody stands in the line, no slip is due
-  none_due : (fs : List Fill) → Each (Due []) fs → fs ≡ []
+  none_due : (fs : List Fill) → AllByRecursion (Due []) fs → fs ≡ []
   none_due [] h = refl
   none_due (f ∷ fs) h = let e = h.0.found in cc
 
   -- slips that are not for the first are for the rest of the line
-  due_later : (p : Intent) (ps : List Intent) (fs : List Fill) → Each (λ (f : Fill). f.passive ≡ p.number → ⊥) fs → Each (Due (p ∷ ps)) fs → Each (Due ps) fs
+  due_later : (p : Intent) (ps : List Intent) (fs : List Fill) → AllByRecursion (λ (f : Fill). f.passive ≡ p.number → ⊥) fs → AllByRecursion (Due (p ∷ ps)) fs → AllByRecursion (Due ps) fs
   due_later p ps fs h k =
       each_join _ _ _ (λ f n d. record { some = d.some; active_is = d.active_is; price_is = d.price_is; mark_is = d.mark_is; passive = d.passive; found = sym (find_later f.passive p ps (λ e. n (sym e))) ∙ d.found }) fs h k
 
@@ -58,7 +59,7 @@ module _ (active price mark : ℕ) where
   module _ (ahead : Standing → Standing → Bool) (line : Orderly ahead) (resting : List Intent) where
     -- where the first slip is not for the first of the line, none is
     none_for_first : (p : Intent) (ps : List Intent) (f : Fill) (fs : List Fill) → (f.passive ≡ p.number → ⊥) → Due (p ∷ ps) f → find p.number resting ≡ Some p →
-        Each (λ (q : Intent). find q.number resting ≡ Some q) ps → Each (Before ahead p) ps → Each (Precedes ahead resting f) fs → Each (λ (g : Fill). g.passive ≡ p.number → ⊥) fs
+        AllByRecursion (λ (q : Intent). find q.number resting ≡ Some q) ps → AllByRecursion (Before ahead p) ps → AllByRecursion (Precedes ahead resting f) fs → AllByRecursion (λ (g : Fill). g.passive ≡ p.number → ⊥) fs
     none_for_first p ps f fs other due mine found before order =
         let r : Intent = due.passive in
         let behind : find f.passive ps ≡ Some r = sym (find_later f.passive p ps (λ e. other (sym e))) ∙ due.found in
@@ -67,11 +68,11 @@ module _ (active price mark : ℕ) where
         each_weaker _ _ (λ g o e. T_false (behind_not ahead line p r p_r) (o.first r p r_found (ap (λ (n : ℕ). find n resting) e ∙ mine))) fs order
 
     -- who gets no slip adds none
-    not_first : (p : Intent) (ps : List Intent) (fs : List Fill) → Each (λ (f : Fill). f.passive ≡ p.number → ⊥) fs → slips_along active price mark (given fs) (p ∷ ps) ≡ slips_along active price mark (given fs) ps
+    not_first : (p : Intent) (ps : List Intent) (fs : List Fill) → AllByRecursion (λ (f : Fill). f.passive ≡ p.number → ⊥) fs → slips_along active price mark (given fs) (p ∷ ps) ≡ slips_along active price mark (given fs) ps
     not_first p ps fs h = cond-false (ltb 0 (given fs p.number)) _ _ (le-ltb 0 (given fs p.number) (omega (arith, given_nothing p.number fs h)))
 
     -- where the first slip is for the first of the line, the others are along the rest
-    for_first : (p : Intent) (ps : List Intent) (f : Fill) (fs : List Fill) → f.passive ≡ p.number → Due (p ∷ ps) f → Each (Apart p) ps → Each (λ (g : Fill). g.passive ≡ p.number → ⊥) fs →
+    for_first : (p : Intent) (ps : List Intent) (f : Fill) (fs : List Fill) → f.passive ≡ p.number → Due (p ∷ ps) f → AllByRecursion (Apart p) ps → AllByRecursion (λ (g : Fill). g.passive ≡ p.number → ⊥) fs →
         slips_along active price mark (given (f ∷ fs)) (p ∷ ps) ≡ f ∷ slips_along active price mark (given fs) ps
     for_first p ps f fs e due apart others =
         let mine : cond (eqb f.passive p.number) f.volume 0 ≡ f.volume = cond-true (eqb f.passive p.number) _ 0 (eq-eqb _ _ e) in
@@ -80,8 +81,8 @@ module _ (active price mark : ℕ) where
         cond-true (ltb 0 (given (f ∷ fs) p.number)) _ _ (lt-ltb 0 _ (omega (arith, due.some))) ∙ ap₂ ◌∷◌ (ap (slip active price mark p) whole ∙ slip_is p f (p ∷ ps) due e) rest
 
     -- slips in the order of the line are told by what they give
-    pub read_back : (ps : List Intent) (fs : List Fill) → Each (λ (p : Intent). find p.number resting ≡ Some p) ps → Pairwise (Before ahead) ps →
-        Each (Due ps) fs → Pairwise (Precedes ahead resting) fs → slips_along active price mark (given fs) ps ≡ fs
+    pub read_back : (ps : List Intent) (fs : List Fill) → AllByRecursion (λ (p : Intent). find p.number resting ≡ Some p) ps → Pairwise (Before ahead) ps →
+        AllByRecursion (Due ps) fs → Pairwise (Precedes ahead resting) fs → slips_along active price mark (given fs) ps ≡ fs
     read_back [] fs found before due order = sym (none_due fs due)
     read_back (p ∷ ps) [] found before due order = read_back ps [] found.1 before.1 tt tt
     read_back (p ∷ ps) (f ∷ fs) found before due order =
@@ -91,7 +92,7 @@ module _ (active price mark : ℕ) where
         for_first p ps f fs e due.0 (each_weaker (Before ahead p) (Apart p) (λ q b. b.0) ps before.0) others ∙
         ap (λ (l : List Fill). f ∷ l) (read_back ps fs found.1 before.1 (due_later p ps fs others due.1) order.1))
         (λ other.
-        let others : Each (λ (g : Fill). g.passive ≡ p.number → ⊥) (f ∷ fs) = (other, none_for_first p ps f fs other due.0 found.0 found.1 before.0 order.0) in
+        let others : AllByRecursion (λ (g : Fill). g.passive ≡ p.number → ⊥) (f ∷ fs) = (other, none_for_first p ps f fs other due.0 found.0 found.1 before.0 order.0) in
         not_first p ps (f ∷ fs) others ∙ read_back ps (f ∷ fs) found.1 before.1 (due_later p ps (f ∷ fs) others due) order)
         (cases_eq f.passive p.number)
 
@@ -100,16 +101,16 @@ module _ (ahead : Standing → Standing → Bool) (order : Orderly ahead) (x y :
   abbrev Alike : List Intent → Intent → Type 0
   Alike ps g = handed x (leading_group ahead g ps) ≡ handed y (leading_group ahead g ps)
 
-  groups_tell : (ps : List Intent) → Pairwise (Before ahead) ps → Each (Alike ps) ps → Each (λ (p : Intent). x p.number ≡ y p.number) ps
+  groups_tell : (ps : List Intent) → Pairwise (Before ahead) ps → AllByRecursion (Alike ps) ps → AllByRecursion (λ (p : Intent). x p.number ≡ y p.number) ps
   groups_tell [] h k = tt
   groups_tell (p ∷ ps) h k =
       let first = rw (group_first ahead order p ps h.0) at k.0 in
       let same : x p.number ≡ y p.number = omega arith in
-      let rest : Each (Alike ps) ps = each_join (Before ahead p) (Alike (p ∷ ps)) (Alike ps) (λ g b l. let later = rw (group_later ahead order p g ps b) at l in omega arith) ps h.0 k.1 in
+      let rest : AllByRecursion (Alike ps) ps = each_join (Before ahead p) (Alike (p ∷ ps)) (Alike ps) (λ g b l. let later = rw (group_later ahead order p g ps b) at l in omega arith) ps h.0 k.1 in
       (same, groups_tell ps h.1 rest)
 
   -- the same of a list that is not in order
-  pub groups_decide : (ps : List Intent) → Pairwise Apart ps → Each (Alike ps) ps → Each (λ (p : Intent). x p.number ≡ y p.number) (queue ahead ps)
+  pub groups_decide : (ps : List Intent) → Pairwise Apart ps → AllByRecursion (Alike ps) ps → AllByRecursion (λ (p : Intent). x p.number ≡ y p.number) (queue ahead ps)
   groups_decide ps apart k =
       groups_tell (queue ahead ps) (ordered_queue ahead order ps apart)
       (each_queue ahead (Alike (queue ahead ps)) ps (each_weaker (Alike ps) (Alike (queue ahead ps)) (λ g same.
@@ -131,7 +132,7 @@ module _ (rules : Rules) (a : Account) (i : Incoming) (lawful : LawfulRules rule
     ordered : Pairwise (Before ahead) (queue ahead passives)
     ordered = ordered_queue ahead (orderly rules i.subscriber lawful) passives (eligible_apart rules.price a i sound)
 
-    queue_found : Each (λ (p : Intent). find p.number (queue ahead passives) ≡ Some p) passives
+    queue_found : AllByRecursion (λ (p : Intent). find p.number (queue ahead passives) ≡ Some p) passives
     queue_found = queue_each ahead _ passives (find_each (queue ahead passives) (apart_queue ahead (orderly rules i.subscriber lawful) passives (eligible_apart rules.price a i sound)))
 
     due : (f : Fill) → DueSlip rules a i f → Due (active_number i.number) (rules.price q i.side) rules.mark (queue ahead passives) f

@@ -1,5 +1,6 @@
 -- The account of a run: what calls and fill slips come to.
 use Rattle.std.specs.Prelude.{ℕ, ◌+◌, ◌-◌, cond, not, ◌||◌, List, [], ◌∷◌, Some, None, Option, ◌==◌, nat_lt, slice_index_or}
+use Rattle.std.specs.List.{filter}
 use Rattle.rules.specs.declared.intents.Intent.{Intent}
 use Rattle.rules.specs.declared.intents.Side.{Side}
 use Rattle.rules.specs.declared.incoming.Incoming.{Incoming}
@@ -11,7 +12,7 @@ use Rattle.rules.specs.declared.slips.Fill.{Fill}
 use Rattle.rules.specs.Eligibility.{eligible}
 use Rattle.rules.specs.Securities.{unlisted, none_listed, in_force}
 use Rattle.law.specs.declared.calls.Terms.{Terms}
-use Rattle.law.specs.Lists.{keep, total}
+use Rattle.law.specs.Lists.{total}
 
 pub record Account : Type 0 where
   pub phase : Phase
@@ -36,7 +37,7 @@ quote_in_force a s = in_force a.phase (security a s)
 -- the resting intents that are eligible for i, by a price rule, under the quote in force
 abbrev pub eligible_under : (Quote → Side → ℕ) → Option Quote → Incoming → List Intent → List Intent
 eligible_under price None i ps = []
-eligible_under price (Some q) i ps = keep (eligible q (price q i.side) i) ps
+eligible_under price (Some q) i ps = filter (eligible q (price q i.side) i) ps
 
 abbrev pub eligible_for : (Quote → Side → ℕ) → Account → Incoming → List Intent
 eligible_for price a i = eligible_under price (quote_in_force a i.security) i a.resting
@@ -61,7 +62,7 @@ lessen fs (p ∷ ps) =
 
 -- all but the intent with this number
 abbrev pub without : ℕ → List Intent → List Intent
-without n ps = keep (λ (p : Intent). not (p.number == n)) ps
+without n ps = filter (λ (p : Intent). not (p.number == n)) ps
 
 -- the volume that an intent has left: 0 where it does not rest
 abbrev pub left_of : ℕ → List Intent → ℕ

@@ -1,5 +1,6 @@
 -- All that a call reads and writes: what the book keeps, and the table and page that are lent to it.
 use Rattle.std.specs.Prelude.{ℕ, ◌-◌, min, Bool, true, ◌&&◌, List, [], ◌∷◌, ◌++◌, length, take, drop, replicate, nat_le, nat_lt}
+use Rattle.std.specs.List.{list_all}
 use Rattle.rules.specs.declared.intents.Intent.{Intent}
 use Rattle.rules.specs.declared.phases.Phase.{Phase}
 use Rattle.rules.specs.declared.securities.Security.{Security}
@@ -7,7 +8,6 @@ use Rattle.rules.specs.declared.slips.Slip.{Slip}
 use Rattle.rules.specs.Blanks.{blank_intent}
 use Rattle.rules.specs.Intents.{in_range, is_blank}
 use Rattle.law.specs.Accounts.{Account}
-use Rattle.law.specs.Lists.{every}
 
 pub record Memory : Type 0 where
   pub phase : Phase
@@ -37,7 +37,7 @@ abbrev pub lawful_table : ℕ → ℕ → List Intent → Bool
 lawful_table count next table =
     nat_le count (capacity table) &&
     (lawful_intents 0 next (take count table) &&
-    every is_blank (drop count (take (capacity table) table)))
+    list_all is_blank (drop count (take (capacity table) table)))
 
 -- the intents in their order, blanks up to the capacity, and what stood beyond it
 abbrev pub laid_out : List Intent → List Intent → List Intent

@@ -1,5 +1,6 @@
 -- The law of one turn: what its fill slips must be, whoever made them.
 use Rattle.std.specs.Prelude.{◌≡◌, ℕ, ◌<◌, ◌≤◌, Bool, true, cond, not, ◌||◌, T, List, [], ◌∷◌, ◌++◌, Some, None, Option, ◌==◌, ◌≢◌}
+use Rattle.std.specs.List.{filter, AllByRecursion}
 use Rattle.rules.specs.declared.incoming.Incoming.{Incoming}
 use Rattle.rules.specs.declared.intents.Intent.{Intent}
 use Rattle.rules.specs.declared.intents.Side.{Side}
@@ -13,7 +14,7 @@ use Rattle.rules.specs.Eligibility.{within_limit, within_any_limit}
 use Rattle.rules.specs.Intents.{standing}
 use Rattle.rules.specs.Prices.{WithinQuote}
 use Rattle.rules.specs.Quotes.{lawful_quote}
-use Rattle.law.specs.Lists.{keep, total, Each, Pairwise}
+use Rattle.law.specs.Lists.{total, Pairwise}
 use Rattle.law.specs.Accounts.{Account, quote_in_force, eligible_for, find}
 
 -- A rule set: the priority, by whom it puts ahead for an incoming subscriber, and the price rule with its mark.
@@ -37,12 +38,12 @@ abbrev pub handed : (ℕ → ℕ) → List Intent → ℕ
 handed give ps = total (λ (p : Intent). give p.number) ps
 
 pub record Allotment (volume : ℕ) (eligible : List Intent) (give : ℕ → ℕ) : Type 0 where
-  pub each : Each (λ (p : Intent). give p.number ≤ p.remaining) eligible
+  pub each : AllByRecursion (λ (p : Intent). give p.number ≤ p.remaining) eligible
   pub all : handed give eligible ≤ volume
 
 -- one eligible intent with all eligible ones ahead of it
 abbrev pub leading_group : (Standing → Standing → Bool) → Intent → List Intent → List Intent
-leading_group ahead g ps = keep (λ (p : Intent). (p.number == g.number) || ahead (standing p) (standing g)) ps
+leading_group ahead g ps = filter (λ (p : Intent). (p.number == g.number) || ahead (standing p) (standing g)) ps
 
 -- what fill slips give each passive intent
 abbrev pub given : List Fill → ℕ → ℕ
@@ -78,13 +79,13 @@ pub record Precedes (ahead : Standing → Standing → Bool) (resting : List Int
 
 -- fs are the fill slips of i's turn
 pub record Turn (rules : Rules) (a : Account) (i : Incoming) (fs : List Fill) : Type 0 where
-  pub slips : Each (DueSlip rules a i) fs
+  pub slips : AllByRecursion (DueSlip rules a i) fs
   -- one slip for each intent that gets shares, foremost first
   pub foremost_first : Pairwise (Precedes (rules.ahead i.subscriber) a.resting) fs
   pub allotment : Allotment i.volume (eligible_for rules.price a i) (given fs)
   -- no other allotment gives any leading group more
   pub most : (give : ℕ → ℕ) → Allotment i.volume (eligible_for rules.price a i) give →
-      Each (λ (g : Intent). handed give (leading_group (rules.ahead i.subscriber) g (eligible_for rules.price a i)) ≤ handed (given fs) (leading_group (rules.ahead i.subscriber) g (eligible_for rules.price a i))) (eligible_for rules.price a i)
+      AllByRecursion (λ (g : Intent). handed give (leading_group (rules.ahead i.subscriber) g (eligible_for rules.price a i)) ≤ handed (given fs) (leading_group (rules.ahead i.subscriber) g (eligible_for rules.price a i))) (eligible_for rules.price a i)
 
 -- fs are the fill slips of i's turn, and no other list is: the law leaves no choice
 pub record OnlyTurn (rules : Rules) (a : Account) (i : Incoming) (fs : List Fill) : Type 0 where
@@ -106,12 +107,12 @@ LawfulIfAny None = Unit {0}
 LawfulIfAny (Some q) = T (lawful_quote q)
 
 abbrev pub LawfulQuotes : List Security → Type 0
-LawfulQuotes ss = Each (λ (x : Security). LawfulIfAny x.quote) ss
+LawfulQuotes ss = AllByRecursion (λ (x : Security). LawfulIfAny x.quote) ss
 
 -- an account as the book keeps it
 pub record Sound (a : Account) : Type 0 where
   pub rising : Pairwise (λ (p q : Intent). p.number < q.number) a.resting
   -- 0 is an order's number, so none is given to an intent
-  pub numbers : Each (λ (p : Intent). (1 ≤ p.number) × (p.number < a.next)) a.resting
-  pub something_left : Each (λ (p : Intent). 1 ≤ p.remaining) a.resting
+  pub numbers : AllByRecursion (λ (p : Intent). (1 ≤ p.number) × (p.number < a.next)) a.resting
+  pub something_left : AllByRecursion (λ (p : Intent). 1 ≤ p.remaining) a.resting
   pub quotes : LawfulQuotes a.securities

@@ -1,27 +1,26 @@
 -- What a scan of the table finds.
 use Rattle.std.proofs.Common.{◌≡◌, ℕ, ◌+◌, ◌-◌, ◌<◌, ◌≤◌, Bool, cond, ◌&&◌, eqb, ltb, List, [], ◌∷◌, length, take, drop, Some, None, Option, slice_get, sym, refl, subst, ap, ◌∙◌, arith}
-use Rattle.std.specs.List.{find as find_first, position, position_or_len}
 use Rattle.std.proofs.lemmas.List.Folds.{find_at}
 use Rattle.std.proofs.lemmas.List.{drop-take}
 use Rattle.std.proofs.lemmas.Bool.{le-leb, ltb-true, ltb-false, cond_both}
 use Rattle.std.proofs.lemmas.Option.{slice_get-get_or, slice_get_past}
+use Rattle.std.specs.List.{find as find_first, position, position_or_len, list_all}
 use Rattle.rules.specs.Blanks.{blank_intent}
 use Rattle.rules.specs.declared.intents.Intent.{Intent}
 use Rattle.rules.specs.Intents.{is_blank}
 use Rattle.law.specs.Accounts.{find}
-use Rattle.law.specs.Lists.{every}
 use Rattle.law.specs.Memories.{capacity, lawful_intents, lawful_table}
 use Rattle.ledger.specs.Places.{at, has_number}
 
 -- a table whose count fits is judged by its two parts
 pub lawful_parts : (count next : ℕ) (table : List Intent) → count ≤ capacity table →
-    lawful_table count next table ≡ lawful_intents 0 next (take (count - 0) table) && every is_blank (take (capacity table - count) (drop count table))
+    lawful_table count next table ≡ lawful_intents 0 next (take (count - 0) table) && list_all is_blank (take (capacity table - count) (drop count table))
 lawful_parts count next table h =
     let front : count ≡ count - 0 = omega arith in
     let whole : capacity table ≡ count + (capacity table - count) = omega arith in
-    ap (λ (b : Bool). b && (lawful_intents 0 next (take count table) && every is_blank (drop count (take (capacity table) table)))) (le-leb count (capacity table) h)
-    ∙ ap (λ (l : List Intent). lawful_intents 0 next (take count table) && every is_blank l) (ap (λ (k : ℕ). drop count (take k table)) whole ∙ drop-take count (capacity table - count) table)
-    ∙ ap (λ (k : ℕ). lawful_intents 0 next (take k table) && every is_blank (take (capacity table - count) (drop count table))) front
+    ap (λ (b : Bool). b && (lawful_intents 0 next (take count table) && list_all is_blank (drop count (take (capacity table) table)))) (le-leb count (capacity table) h)
+    ∙ ap (λ (l : List Intent). lawful_intents 0 next (take count table) && list_all is_blank l) (ap (λ (k : ℕ). drop count (take k table)) whole ∙ drop-take count (capacity table - count) table)
+    ∙ ap (λ (k : ℕ). lawful_intents 0 next (take k table) && list_all is_blank (take (capacity table - count) (drop count table))) front
 
 find_numbered : (n : ℕ) (ps : List Intent) → find n ps ≡ find_first (has_number n) ps
 find_numbered n [] = refl

@@ -1,7 +1,6 @@
 //! The lent table: which places of it count, whether it is lawful, and how it is closed up.
 ghost use Rattle.std.specs.Prelude.{◌≡◌, ◌-◌, ◌++◌, length, replicate};
-ghost use Rattle.std.specs.List.{position};
-ghost use Rattle.law.specs.Lists.{keep, every};
+ghost use Rattle.std.specs.List.{position, filter, list_all};
 ghost use Rattle.law.specs.Memories.{capacity, lawful_intents, lawful_table};
 ghost use Rattle.ledger.specs.Places.{live, may_follow, has_number};
 ghost use Rattle.rules.specs.Blanks.{blank_intent};
@@ -42,7 +41,7 @@ fn are_lawful(intents: &[Intent], next: u32) -> bool
 
 /// Whether no intent rests in any of these places.
 fn are_blank(places: &[Intent]) -> bool
-    ensures { result ≡ every is_blank places.now }
+    ensures { result ≡ list_all is_blank places.now }
 {
     for i in 0..places.len() {
         if !places[i].is_blank() {
@@ -81,8 +80,8 @@ pub fn blank(places: &mut [Intent])
 /// Moves the intents that have something left together, in their order, and blanks the places that come free. Answers how
 /// many are left.
 pub fn close_up(table: &mut [Intent]) -> usize
-    ensures count { result ≡ length (keep live table.old) }
-    ensures table { table.new ≡ keep live table.old ++ replicate (length table.old - result) blank_intent }
+    ensures count { result ≡ length (filter live table.old) }
+    ensures table { table.new ≡ filter live table.old ++ replicate (length table.old - result) blank_intent }
 {
     let mut left: usize = 0;
     for i in 0..table.len() {
