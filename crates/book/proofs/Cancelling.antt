@@ -17,7 +17,7 @@ use Rattle.law.specs.Turns.{Rules}
 use Rattle.law.proofs.Checked.{checked_ok, checked_passes}
 use Rattle.law.proofs.Lawful.{table_parts, lawful_count, lawful_left, lawful_rising}
 use Rattle.law.proofs.Lessened.{left_found}
-use Rattle.law.proofs.Lists.{each_weaker, keep_all, keep_short}
+use Rattle.law.proofs.Lists.{each_weaker, filter_all, length-filter-le}
 use Rattle.law.proofs.Numbers.{Apart, rising_apart}
 use Rattle.law.proofs.Outcomes.{after_accepted}
 use Rattle.ledger.specs.Places.{at, live, has_number}
@@ -38,8 +38,8 @@ emptied_leaves n (p ∷ ps) k some apart is here = by (eqb p.number n) refl k is
         ((j : ℕ) → j ≡ place_in n ps → j < length ps → filter live (set ps j (with_left (at ps j) 0)) ≡ without n ps) →
         filter live (set (p ∷ ps) k (with_left (at (p ∷ ps) k) 0)) ≡ cond (not b) (p ∷ without n ps) (without n ps)
     by true e zero is l more =
-        keep_all live ps (each_weaker _ _ (λ q h. lt-ltb 0 q.remaining h) ps some.1)
-        ∙ sym (keep_all (λ (q : Intent). not (eqb q.number n)) ps (each_weaker _ _ (λ q d. ap not (ne_eqb _ _ (λ k. d (eqb-true p.number n e ∙ sym k)))) ps apart.0))
+        filter_all live ps (each_weaker _ _ (λ q h. lt-ltb 0 q.remaining h) ps some.1)
+        ∙ sym (filter_all (λ (q : Intent). not (eqb q.number n)) ps (each_weaker _ _ (λ q d. ap not (ne_eqb _ _ (λ k. d (eqb-true p.number n e ∙ sym k)))) ps apart.0))
     by true e (suc k) is l more = absurd (omega arith)
     by false e zero is l more = absurd (omega arith)
     by false e (suc k) is l more =
@@ -109,6 +109,6 @@ module _ (rules : Rules) (m : Memory) (r : Reference) (place : ℕ) (passed : Ok
       closed ∙ ap (λ (l : List Intent). l ++ (replicate (m.count - count') blank_intent ++ drop m.count emptied)) leaves
       ∙ ap (λ (k : ℕ). rs ++ (replicate (m.count - k) blank_intent ++ drop m.count emptied)) count_is
       ∙ ap (λ (l : List Intent). rs ++ (replicate (m.count - length rs) blank_intent ++ l)) (drop-set-lt m.count m.table place (with_left (at m.table place) 0) inside)
-      ∙ laid_out_less m.count m.next m.table rs lawful (omega (arith, keep_short (λ (p : Intent). not (eqb p.number n)) ps, many)) in
+      ∙ laid_out_less m.count m.next m.table rs lawful (omega (arith, length-filter-le (λ (p : Intent). not (eqb p.number n)) ps, many)) in
       (λ j. record { phase = m.phase; day = m.day; next = m.next; securities = m.securities; count = count_is j; table = table_is j; page = m.page })
       ∙ sym (after_accepted rules m (cancel_call r) (place_in n ps) place (sym passed))

@@ -20,8 +20,7 @@ use Rattle.law.proofs.Eligibility.{eligible_some}
 use Rattle.law.proofs.Fills.{traded_passive}
 use Rattle.law.proofs.Lawful.{table_parts, lawful_count, lawful_layout, lawful_numbers, lawful_rising, lawful_left}
 use Rattle.law.proofs.Lessened.{lessen_short}
-use Rattle.law.proofs.Lists.{each_weaker, keep_short}
-use Rattle.law.proofs.Places.{places_from_pairwise}
+use Rattle.law.proofs.Lists.{each_weaker, length-filter-le, places_from_pairwise}
 use Rattle.law.proofs.Serve.{serve_active}
 use Rattle.ledger.specs.Places.{at, live}
 use Rattle.book.specs.declared.turns.Turned.{Turned}
@@ -31,13 +30,13 @@ use Rattle.book.specs.Matches.{ComesNew, Matched}
 -- THE FILLS
 
 -- where all have something left, the ready ones are the eligible ones
-keep_ready : (q : Quote) (price : ℕ) (i : Incoming) (ps : List Intent) → AllByRecursion (λ (p : Intent). 1 ≤ p.remaining) ps → filter (ready q price i) ps ≡ filter (eligible q price i) ps
+filter_ready : (q : Quote) (price : ℕ) (i : Incoming) (ps : List Intent) → AllByRecursion (λ (p : Intent). 1 ≤ p.remaining) ps → filter (ready q price i) ps ≡ filter (eligible q price i) ps
 unfolding ready
-keep_ready q price i [] h = refl
-keep_ready q price i (p ∷ ps) h =
+filter_ready q price i [] h = refl
+filter_ready q price i (p ∷ ps) h =
     let live_p : live p ≡ true = lt-ltb 0 p.remaining h.0 in
     ap (λ (b : Bool). cond (b && eligible q price i p) (p ∷ filter (ready q price i) ps) (filter (ready q price i) ps)) live_p
-    ∙ ap (λ (l : List Intent). cond (eligible q price i p) (p ∷ l) l) (keep_ready q price i ps h.1)
+    ∙ ap (λ (l : List Intent). cond (eligible q price i p) (p ∷ l) l) (filter_ready q price i ps h.1)
 
 module _ (rules : Rules) (a : Account) (i : Incoming) (some : AllByRecursion (λ (p : Intent). 1 ≤ p.remaining) a.resting) where
   under : (o : Option Quote) → quote_in_force a i.security ≡ o → turn_under rules o i a.resting ≡ fills_under rules o a i
@@ -45,7 +44,7 @@ module _ (rules : Rules) (a : Account) (i : Incoming) (some : AllByRecursion (λ
   under (Some q) e =
       let price : ℕ = rules.price q i.side in
       ap (λ (l : List Intent). serve (active_number i.number) price rules.mark i.volume (queue (rules.ahead i.subscriber) l))
-      (keep_ready q price i a.resting some ∙ sym (eligible_some rules.price a i q e))
+      (filter_ready q price i a.resting some ∙ sym (eligible_some rules.price a i q e))
 
   pub in_place : turn_under rules (quote_in_force a i.security) i a.resting ≡ turn_fills rules a i
   in_place = under (quote_in_force a i.security) refl
@@ -149,7 +148,7 @@ module _ (rules : Rules) (m : Memory) (i : Incoming) (lawful : lawful_table m.co
       ∙ ap (λ (n : ℕ). rs ++ (replicate (m.count - n) blank_intent ++ drop m.count table)) count_is
       ∙ ap (λ (l : List Intent). rs ++ (replicate (m.count - length rs) blank_intent ++ l)) beyond
       ∙ laid_out_less m.count m.next m.table rs lawful (omega (arith, lessen_short fs ps)) in
-      let few : length fs ≤ length m.page = omega (arith, handed.few, handed.counted, ap length same_fills, keep_short live ps) in
+      let few : length fs ≤ length m.page = omega (arith, handed.few, handed.counted, ap length same_fills, length-filter-le live ps) in
       let page_is : page' ≡ written (map Filled fs) m.page = handed.pages ∙ ap (written_from m.page 0) same_fills ∙ written_whole m.page fs few in
       record {
         slips = handed.counted ∙ ap length same_fills;

@@ -10,8 +10,7 @@ use Rattle.law.specs.Models.{place, queue}
 use Rattle.rules.specs.Blanks.{blank_intent}
 use Rattle.ledger.specs.Places.{at}
 use Rattle.book.specs.InPlace.{Distinct}
-use Rattle.law.proofs.Lists.{each_kept}
-use Rattle.law.proofs.Places.{each_from_places}
+use Rattle.law.proofs.Lists.{each_join, each_filter, each_passes, each_from_places}
 use Rattle.law.proofs.Queue.{each_queue}
 
 module _ (ahead : Standing → Standing → Bool) where
@@ -37,7 +36,7 @@ module _ (ahead : Standing → Standing → Bool) (sided : Sided ahead) (t : Int
       (λ k h e. sided (standing p) (standing (at ps k)) (d 0 (suc k) (omega arith) (omega arith) (λ x. omega arith)) ∙ ap not (b (suc k) (omega arith) (λ x. omega arith) e)) in
       let firsts : AllByRecursion (λ (q : Intent). ahead (standing p) (standing q) ≡ true) (queue ahead (filter t ps)) =
       each_queue ahead (λ (q : Intent). ahead (standing p) (standing q) ≡ true) (filter t ps)
-      (each_kept (λ (q : Intent). t q ≡ true → ahead (standing p) (standing q) ≡ true) (λ (q : Intent). ahead (standing p) (standing q) ≡ true) t (λ q e h. h e) ps behind) in
+      (each_join _ _ _ (λ q e h. h e) (filter t ps) (each_passes t ps) (each_filter _ t ps behind)) in
       ap (queue ahead) (cond-true (t p) (p ∷ filter t ps) (filter t ps) r)
       ∙ place_first ahead p (queue ahead (filter t ps)) firsts
       ∙ sym (ap (λ (l : List Intent). p ∷ queue ahead l) (cond-false (t (with_left p 0)) (with_left p 0 ∷ filter t ps) (filter t ps) (emptied p)))

@@ -16,8 +16,7 @@ use Rattle.law.specs.Models.{queue, serve}
 use Rattle.rules.specs.Blanks.{blank_intent}
 use Rattle.ledger.specs.Places.{at, live}
 use Rattle.book.specs.InPlace.{ready, Distinct, Foremost, Nowhere, turn_of, relieved, written_from, alive, Handed}
-use Rattle.law.proofs.Lists.{keep_none}
-use Rattle.law.proofs.Places.{each_from_places}
+use Rattle.law.proofs.Lists.{each_from_places, filter_none}
 use Rattle.law.proofs.Serve.{serve_spent}
 use Rattle.book.proofs.Queueing.{Sided, queue_head}
 
@@ -74,7 +73,7 @@ module _ (ahead : Standing → Standing → Bool) (q : Quote) (price mark : ℕ)
 
   pub turn_none : (left : ℕ) (ps : List Intent) → Nowhere (ready q price i) ps (length ps) → turn_of ahead q price mark i left ps ≡ []
   turn_none left ps h =
-      ap (λ (l : List Intent). serve (active_number i.number) price mark left (queue ahead l)) (keep_none (ready q price i) ps (each_from_places blank_intent (λ (p : Intent). ready q price i p ≡ false) ps h))
+      ap (λ (l : List Intent). serve (active_number i.number) price mark left (queue ahead l)) (filter_none (ready q price i) ps (each_from_places blank_intent (λ (p : Intent). ready q price i p ≡ false) ps h))
 
   pub turn_more : Sided ahead → (left : ℕ) (ps : List Intent) (k : ℕ) → 0 < left → Distinct ps (length ps) → Foremost ahead (ready q price i) ps (length ps) k →
       turn_of ahead q price mark i left ps ≡ slip (at ps k) (min (at ps k).remaining left) ∷ turn_of ahead q price mark i (left - min (at ps k).remaining left) (set ps k (less (at ps k) (min (at ps k).remaining left)))

@@ -1,26 +1,19 @@
 -- CHECKS: what is checked comes out as it is, or as the refusal of a test, whatever it is.
-use Rattle.std.proofs.Common.{◌≡◌, ℕ, true, cond, List, [], ◌∷◌, is_ok, Ok, Err, Result, sym, refl, ap, ◌∙◌, arith}
-use Rattle.std.proofs.lemmas.Bool.{cond_both, cond-true, cond-false}
+use Rattle.std.proofs.Common.{◌≡◌, true, List, [], ◌∷◌, Ok, Err, refl, arith}
 use Rattle.std.specs.List.{AllByRecursion}
 use Rattle.rules.specs.declared.refusals.Refusal.{Refusal}
 use Rattle.law.specs.Checks.{Check, checked}
 use Rattle.law.specs.Outcomes.{unless_refused}
 
--- nothing is both accepted and refused
-pub ok_err : {A : Type 0} {x : A} {e : Refusal} → ◌≡◌ {A = Result A Refusal} (Ok x) (Err e) → ⊥
-ok_err {A} {x} {e} k = let z : ◌≡◌ {A = ℕ} 0 1 = cc in omega arith
-
 -- all tests hold of what comes out
 pub checked_passes : {A : Type 0} (cs : List Check) (x x' : A) → checked cs x ≡ Ok x' → AllByRecursion (λ (c : Check). c.0 ≡ true) cs
 checked_passes [] x x' h = tt
-checked_passes {A} (c ∷ cs) x x' h =
-    cond_both c.0 (checked cs x) (Err c.1) (λ (r : Result A Refusal). r ≡ Ok x' → AllByRecursion (λ (c : Check). c.0 ≡ true) (c ∷ cs))
-    (λ e k. (e, checked_passes cs x x' k)) (λ _ k. absurd (ok_err (sym k))) h
+checked_passes (c ∷ cs) x x' h = grind (arith, checked_passes cs x x')
 
 -- where all tests hold, it comes out as it is
-pub passes_checked : {A : Type 0} (cs : List Check) (x : A) → AllByRecursion (λ (c : Check). c.0 ≡ true) cs → checked cs x ≡ Ok x
+passes_checked : {A : Type 0} (cs : List Check) (x : A) → AllByRecursion (λ (c : Check). c.0 ≡ true) cs → checked cs x ≡ Ok x
 passes_checked [] x h = refl
-passes_checked (c ∷ cs) x h = cond-true c.0 (checked cs x) (Err c.1) h.0 ∙ passes_checked cs x h.1
+passes_checked (c ∷ cs) x h = grind (arith, passes_checked cs x)
 
 -- what passes for one value passes for any other
 pub checked_ok : {A B : Type 0} (cs : List Check) (x x' : A) (y : B) → checked cs x ≡ Ok x' → checked cs y ≡ Ok y
@@ -28,18 +21,15 @@ checked_ok cs x x' y h = passes_checked cs y (checked_passes cs x x' h)
 
 -- and what is refused for one value is refused alike for any other
 pub checked_err : {A B : Type 0} (cs : List Check) (x : A) (y : B) (e : Refusal) → checked cs x ≡ Err e → checked cs y ≡ Err e
-checked_err [] x y e h = absurd (ok_err h)
-checked_err {A} (c ∷ cs) x y e h =
-    cond_both c.0 (checked cs x) (Err c.1) (λ (r : Result A Refusal). r ≡ Err e → checked (c ∷ cs) y ≡ Err e)
-    (λ t k. cond-true c.0 (checked cs y) (Err c.1) t ∙ checked_err cs x y e k)
-    (λ f k. let same : c.1 ≡ e = cc in cond-false c.0 (checked cs y) (Err c.1) f ∙ ap Err same) h
+checked_err [] x y e h = cc
+checked_err (c ∷ cs) x y e h = grind (arith, checked_err cs x y e)
 
 -- AFTERWARDS
 
 -- what is accepted goes on
 pub unless_ok : {A B : Type 0} (cs : List Check) (z z' : B) (x y : A) → checked cs z ≡ Ok z' → unless_refused cs x y ≡ x
-unless_ok cs z z' x y h = ap (λ (r : Result (Unit {0}) Refusal). cond (is_ok r) x y) (checked_ok cs z z' tt h)
+unless_ok cs z z' x y h = rw (checked_ok cs z z' (tt {0}) h)
 
 -- what is refused stays as it was
 pub unless_err : {A B : Type 0} (cs : List Check) (z : B) (e : Refusal) (x y : A) → checked cs z ≡ Err e → unless_refused cs x y ≡ y
-unless_err cs z e x y h = ap (λ (r : Result (Unit {0}) Refusal). cond (is_ok r) x y) (checked_err cs z tt e h)
+unless_err cs z e x y h = rw (checked_err cs z (tt {0}) e h)

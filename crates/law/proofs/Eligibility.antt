@@ -1,8 +1,9 @@
 -- Who is eligible: a part of those that rest, within both limits.
 -- The quote in force is a lawful one.
-use Rattle.std.proofs.Common.{◌≡◌, ℕ, Bool, true, false, ◌&&◌, T, List, [], Some, None, Option, refl}
+use Rattle.std.proofs.Common.{◌≡◌, ℕ, Bool, arith, ◌&&◌, T, List, [], Some, None, Option, refl}
 use Rattle.std.proofs.lemmas.Bool.{cond_both}
 use Rattle.std.specs.List.{filter, AllByRecursion}
+use Rattle.std.proofs.lemmas.Bool.Decides.{nat_tests}
 use Rattle.rules.specs.declared.intents.Side.{Side}
 use Rattle.rules.specs.declared.quotes.Quote.{Quote}
 use Rattle.rules.specs.declared.intents.Intent.{Intent}
@@ -13,7 +14,7 @@ use Rattle.rules.specs.Securities.{unlisted, is_regular, is_open}
 use Rattle.law.specs.Lists.{Pairwise}
 use Rattle.law.specs.Accounts.{Account, security, quote_in_force, eligible_for, find}
 use Rattle.law.specs.Turns.{LawfulIfAny, Sound}
-use Rattle.law.proofs.Lists.{each_getD, each_keep, pairwise_keep}
+use Rattle.law.proofs.Lists.{each_get_or, each_filter, pairwise_filter}
 use Rattle.law.proofs.Numbers.{Apart, rising_apart, find_each}
 
 module _ (a : Account) (sound : Sound a) where
@@ -25,22 +26,14 @@ module _ (a : Account) (sound : Sound a) where
   pub in_force_lawful : (s : ℕ) → LawfulIfAny (quote_in_force a s)
   in_force_lawful s =
       cond_both (is_regular a.phase && is_open (security a s).state) (security a s).quote None LawfulIfAny
-      (λ _. each_getD (λ (x : Security). LawfulIfAny x.quote) a.securities s unlisted tt sound.quotes) (λ _. tt)
+      (λ _. each_get_or (λ (x : Security). LawfulIfAny x.quote) a.securities s unlisted tt sound.quotes) (λ _. tt)
 
 -- ONE INTENT
-
-and_T_left : (x y : Bool) → T (x && y) → T x
-and_T_left true y t = tt
-and_T_left false y t = t
-
-and_T_right : (x y : Bool) → T (x && y) → T y
-and_T_right true y t = t
-and_T_right false y t = absurd t
 
 -- what is eligible is within both limits
 pub eligible_within : (q : Quote) (price : ℕ) (i : Incoming) (p : Intent) → T (eligible q price i p) →
     T (within_limit p.side p.limit price) × T (within_any_limit i.side i.limit price)
-eligible_within q price i p h = (search (and_T_left, and_T_right), search (and_T_left, and_T_right) depth 7)
+eligible_within q price i p h = grind (arith, nat_tests)
 
 -- WHAT IS ELIGIBLE
 
@@ -63,11 +56,11 @@ module _ (price : Quote → Side → ℕ) (a : Account) (i : Incoming) where
 
   -- what holds of all that rest holds of the eligible ones
   pub each_eligible : (P : Intent → Type 0) → AllByRecursion P a.resting → AllByRecursion P (eligible_for price a i)
-  each_eligible P h = eligible_part (AllByRecursion P) tt (λ t. each_keep P t a.resting h)
+  each_eligible P h = eligible_part (AllByRecursion P) tt (λ t. each_filter P t a.resting h)
 
   module _ (sound : Sound a) where
     pub eligible_apart : Pairwise Apart (eligible_for price a i)
-    eligible_apart = eligible_part (Pairwise Apart) tt (λ t. pairwise_keep Apart t a.resting (resting_apart a sound))
+    eligible_apart = eligible_part (Pairwise Apart) tt (λ t. pairwise_filter Apart t a.resting (resting_apart a sound))
 
     -- each eligible intent is the resting one under its number
     pub eligible_resting : AllByRecursion (λ (p : Intent). find p.number a.resting ≡ Some p) (eligible_for price a i)

@@ -1,16 +1,11 @@
 -- A LAWFUL TABLE holds a sound account, and its places from `count` to the capacity are blank.
-use Rattle.std.proofs.Common.{◌≡◌, ℕ, ◌-◌, ◌<◌, ◌≤◌, true, false, eqb, ltb, leb, List, [], ◌∷◌, ◌++◌, length, take, drop, replicate, sym, refl, ap, ◌∙◌, ap₂, append_assoc, arith}
+use Rattle.std.proofs.Common.{◌≡◌, ℕ, ◌-◌, ◌<◌, ◌≤◌, true, List, [], ◌∷◌, ◌++◌, length, take, drop, replicate, sym, refl, ap, ◌∙◌, ap₂, append_assoc, arith}
 use Rattle.std.proofs.lemmas.List.{length-take, length-drop, length-take-le, take-append-drop, take-take}
-use Rattle.std.proofs.lemmas.Bool.{ltb-true, leb-true, eqb-true, both_ways, and_parts}
 use Rattle.std.proofs.lemmas.Bool.Decides.{nat_tests}
 use Rattle.std.specs.List.{list_all, AllByRecursion}
 use Rattle.rules.specs.declared.intents.Intent.{Intent}
-use Rattle.rules.specs.declared.intents.Side.{Side}
-use Rattle.rules.specs.declared.intents.Side.TheVariants.{Buy, Sell}
 use Rattle.rules.specs.Blanks.{blank_intent}
-use Rattle.rules.specs.declared.minimums.Minimums.{Minimums}
-use Rattle.rules.specs.Minimums.{no_minimums, asks_nothing}
-use Rattle.rules.specs.Intents.{in_range, is_buy, is_blank}
+use Rattle.rules.specs.Intents.{in_range, is_blank}
 use Rattle.law.specs.Memories.{Memory, capacity, account, lawful_intents, lawful_table, laid_out}
 use Rattle.law.specs.Turns.{LawfulQuotes, Sound}
 use Rattle.law.proofs.Lists.{each_weaker}
@@ -27,11 +22,7 @@ pub record LawfulFirst (last next : ℕ) (p : Intent) (ps : List Intent) : Type 
 
 -- the test, taken apart at the first intent
 pub lawful_first : (last next : ℕ) (p : Intent) (ps : List Intent) → lawful_intents last next (p ∷ ps) ≡ true → LawfulFirst last next p ps
-lawful_first last next p ps h =
-    let one = and_parts (in_range p) _ h in
-    let two = and_parts (ltb last p.number) _ one.1 in
-    let three = and_parts (ltb p.number next) (lawful_intents p.number next ps) two.1 in
-    record { range = one.0; above = ltb-true last p.number two.0; below = ltb-true p.number next three.0; others = three.1 }
+lawful_first last next p ps h = grind (arith, nat_tests)
 
 -- every intent is in range
 pub lawful_ranges : (last next : ℕ) (ps : List Intent) → lawful_intents last next ps ≡ true → AllByRecursion (λ (p : Intent). in_range p ≡ true) ps
@@ -62,44 +53,14 @@ lawful_left last next ps h = each_weaker _ _ in_range_left ps (lawful_ranges las
 
 -- BLANKS
 
--- what is a buy is the side buy
-buy_is : (s : Side) → is_buy s ≡ true → s ≡ Buy
-buy_is Buy h = refl
-buy_is Sell h = absurd (both_ways false refl h)
-
--- minimums that ask nothing are none
-nothing_is : (m : Minimums) → asks_nothing m ≡ true → m ≡ no_minimums
-nothing_is m h = let parts = and_parts (eqb m.spread 0) _ h in λ j. record { spread = eqb-true m.spread 0 parts.0 j; volume = eqb-true m.volume 0 parts.1 j }
-
 -- what passes the test is the blank intent
-pub blank_is : (p : Intent) → is_blank p ≡ true → p ≡ blank_intent
-blank_is p h =
-    let a = and_parts (eqb p.security 0) _ h in
-    let b = and_parts (eqb p.subscriber 0) _ a.1 in
-    let c = and_parts (eqb p.group 0) _ b.1 in
-    let d = and_parts (is_buy p.side) _ c.1 in
-    let e = and_parts (eqb p.entered 0) _ d.1 in
-    let f = and_parts (eqb p.remaining 0) _ e.1 in
-    let g = and_parts (eqb p.limit 0) _ f.1 in
-    let k = and_parts (asks_nothing p.minimums) _ g.1 in
-    let m = and_parts (eqb p.last_day 0) _ k.1 in
-    λ j. record {
-      security = eqb-true p.security 0 a.0 j;
-      subscriber = eqb-true p.subscriber 0 b.0 j;
-      group = eqb-true p.group 0 c.0 j;
-      side = buy_is p.side d.0 j;
-      entered = eqb-true p.entered 0 e.0 j;
-      remaining = eqb-true p.remaining 0 f.0 j;
-      limit = eqb-true p.limit 0 g.0 j;
-      minimums = nothing_is p.minimums k.0 j;
-      last_day = eqb-true p.last_day 0 m.0 j;
-      number = eqb-true p.number 0 m.1 j;
-    }
+blank_is : (p : Intent) → is_blank p ≡ true → p ≡ blank_intent
+blank_is p h = grind (arith, nat_tests)
 
 -- places that all pass it are so many blanks
 pub blanks_are : (ps : List Intent) → list_all is_blank ps ≡ true → ps ≡ replicate (length ps) blank_intent
 blanks_are [] h = refl
-blanks_are (p ∷ ps) h = let parts = and_parts (is_blank p) (list_all is_blank ps) h in ap₂ ◌∷◌ (blank_is p parts.0) (blanks_are ps parts.1)
+blanks_are (p ∷ ps) h = grind (arith, nat_tests, blank_is p, blanks_are ps)
 
 -- A LAWFUL TABLE
 
@@ -110,10 +71,7 @@ pub record LawfulTable (count next : ℕ) (table : List Intent) : Type 0 where
   pub blanks : list_all is_blank (drop count (take (capacity table) table)) ≡ true
 
 pub table_parts : (count next : ℕ) (table : List Intent) → lawful_table count next table ≡ true → LawfulTable count next table
-table_parts count next table h =
-    let one = and_parts (leb count (capacity table)) _ h in
-    let two = and_parts (lawful_intents 0 next (take count table)) _ one.1 in
-    record { fits = leb-true count (capacity table) one.0; intents = two.0; blanks = two.1 }
+table_parts count next table h = grind (arith, nat_tests)
 
 -- as many intents rest as are counted
 pub lawful_count : (count next : ℕ) (table : List Intent) → lawful_table count next table ≡ true → length (take count table) ≡ count

@@ -1,6 +1,5 @@
 -- Lists and numbers
 pub mod Lists
-pub mod Places
 pub mod Numbers
 -- One turn
 pub mod Fills

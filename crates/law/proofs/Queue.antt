@@ -1,7 +1,6 @@
 -- The queue: it holds what it is given, no more and no less, foremost first.
 -- `Orderly` is what it asks of a priority.
-use Rattle.std.proofs.Common.{◌≡◌, ℕ, ◌+◌, Bool, true, false, not, List, [], ◌∷◌, sym, refl, ap, ◌∙◌, arith}
-use Rattle.std.proofs.lemmas.Bool.{cond_both}
+use Rattle.std.proofs.Common.{◌≡◌, ℕ, ◌+◌, Bool, true, false, not, List, [], ◌∷◌, refl, arith}
 use Rattle.std.specs.List.{AllByRecursion}
 use Rattle.rules.specs.declared.intents.Standing.{Standing}
 use Rattle.rules.specs.declared.intents.Intent.{Intent}
@@ -24,9 +23,7 @@ module _ (ahead : Standing → Standing → Bool) where
   -- what holds of the new one and of all others holds of each in the line
   pub each_place : (P : Intent → Type 0) (p : Intent) (qs : List Intent) → P p → AllByRecursion P qs → AllByRecursion P (place ahead p qs)
   each_place P p [] h hs = (h, tt)
-  each_place P p (q ∷ qs) h hs =
-      let rest = each_place P p qs h hs.1 in
-      cond_both (ahead (standing p) (standing q)) (p ∷ (q ∷ qs)) (q ∷ place ahead p qs) (AllByRecursion P) (λ _. (h, hs)) (λ _. (hs.0, rest))
+  each_place P p (q ∷ qs) h hs = grind (arith, each_place P p qs h hs.1)
 
   -- the queue holds nobody else
   pub each_queue : (P : Intent → Type 0) (ps : List Intent) → AllByRecursion P ps → AllByRecursion P (queue ahead ps)
@@ -36,9 +33,7 @@ module _ (ahead : Standing → Standing → Bool) where
   -- and the other way round
   pub place_each : (P : Intent → Type 0) (p : Intent) (qs : List Intent) → AllByRecursion P (place ahead p qs) → P p × AllByRecursion P qs
   place_each P p [] h = h
-  place_each P p (q ∷ qs) h =
-      cond_both (ahead (standing p) (standing q)) (p ∷ (q ∷ qs)) (q ∷ place ahead p qs) (λ (l : List Intent). AllByRecursion P l → P p × AllByRecursion P (q ∷ qs)) (λ _ k. k)
-      (λ _ k. let rest = place_each P p qs k.1 in (rest.0, (k.0, rest.1))) h
+  place_each P p (q ∷ qs) h = grind (arith, place_each P p qs)
 
   -- the queue leaves nobody out
   pub queue_each : (P : Intent → Type 0) (ps : List Intent) → AllByRecursion P (queue ahead ps) → AllByRecursion P ps
@@ -47,14 +42,12 @@ module _ (ahead : Standing → Standing → Bool) where
 
   pub total_place : (f : Intent → ℕ) (p : Intent) (qs : List Intent) → total f (place ahead p qs) ≡ f p + total f qs
   total_place f p [] = refl
-  total_place f p (q ∷ qs) =
-      let rest = total_place f p qs in
-      cond_both (ahead (standing p) (standing q)) (p ∷ (q ∷ qs)) (q ∷ place ahead p qs) (λ (l : List Intent). total f l ≡ f p + (f q + total f qs)) (λ _. refl) (λ _. omega arith)
+  total_place f p (q ∷ qs) = grind (arith, total_place f p qs)
 
   -- nor has it anybody twice: every sum stays the same
   pub total_queue : (f : Intent → ℕ) (ps : List Intent) → total f (queue ahead ps) ≡ total f ps
   total_queue f [] = refl
-  total_queue f (p ∷ ps) = total_place f p (queue ahead ps) ∙ ap (λ (n : ℕ). f p + n) (total_queue f ps)
+  total_queue f (p ∷ ps) = omega (arith, total_place f p (queue ahead ps), total_queue f ps)
 
 module _ (ahead : Standing → Standing → Bool) (order : Orderly ahead) where
   pub before_onward : (p q r : Intent) → Before ahead p q → Apart p r → Before ahead q r → Before ahead p r
@@ -62,21 +55,17 @@ module _ (ahead : Standing → Standing → Bool) (order : Orderly ahead) where
 
   -- of two with different numbers, one is ahead of the other
   pub before_other : (p q : Intent) → Apart p q → ahead (standing p) (standing q) ≡ false → Before ahead q p
-  before_other p q h e = ((λ k. h (sym k)), order.either (standing q) (standing p) (λ k. h (sym k)) ∙ ap not e)
+  before_other p q h e = grind (arith, order.either (standing q) (standing p))
 
   -- who is behind is not ahead
   pub behind_not : (p q : Intent) → Before ahead p q → ahead (standing q) (standing p) ≡ false
-  behind_not p q h = order.either (standing q) (standing p) (λ k. h.0 (sym k)) ∙ ap not h.1
+  behind_not p q h = grind (arith, order.either (standing q) (standing p))
 
   pub ordered_place : (p : Intent) (qs : List Intent) → AllByRecursion (Apart p) qs → Pairwise (Before ahead) qs → Pairwise (Before ahead) (place ahead p qs)
   ordered_place p [] h k = (tt, tt)
   ordered_place p (q ∷ qs) h k =
-      let rest = ordered_place p qs h.1 k.1 in
-      cond_both (ahead (standing p) (standing q)) (p ∷ (q ∷ qs)) (q ∷ place ahead p qs) (Pairwise (Before ahead))
-      (λ e.
-      let first : Before ahead p q = (h.0, e) in
-      ((first, each_join (Apart p) (Before ahead q) (Before ahead p) (λ r. before_onward p q r first) qs h.1 k.0), k))
-      (λ e. (each_place ahead (Before ahead q) p qs (before_other p q h.0 e) k.0, rest))
+      grind (arith, ordered_place p qs h.1 k.1, before_other p q h.0, each_place ahead (Before ahead q) p qs,
+      λ (first : Before ahead p q). each_join (Apart p) (Before ahead q) (Before ahead p) (λ r. before_onward p q r first) qs h.1 k.0)
 
   -- foremost first
   pub ordered_queue : (ps : List Intent) → Pairwise Apart ps → Pairwise (Before ahead) (queue ahead ps)

@@ -13,7 +13,7 @@ use Rattle.law.specs.Lists.{total, Pairwise}
 use Rattle.law.specs.Accounts.{Account, quote_in_force, eligible_for, find}
 use Rattle.law.specs.Turns.{Rules, LawfulRules, handed, Allotment, leading_group, given, active_number, Priced, DueSlip, Precedes, Turn, LawfulIfAny, Sound}
 use Rattle.law.specs.Models.{queue, serve, fills_under, turn_fills}
-use Rattle.law.proofs.Lists.{T_true, each_weaker, each_join, each_keep, each_passes, pairwise_beside, total_least, total_keep, total_part}
+use Rattle.law.proofs.Lists.{T_true, each_weaker, each_join, each_filter, each_passes, pairwise_beside, total_least, total_filter, total_part}
 use Rattle.law.proofs.Numbers.{Apart, find_each}
 use Rattle.law.proofs.Queue.{Before, Orderly, each_queue, queue_each, total_queue, ordered_queue, apart_queue}
 use Rattle.law.proofs.Serve.{slip, each_serve, pairwise_serve, served_each, served_all, leads, groups_served}
@@ -21,7 +21,7 @@ use Rattle.law.proofs.Eligibility.{in_force_lawful, eligible_within, eligible_no
 
 -- the queue hands the same to any part
 pub part_queue : (ahead : Standing → Standing → Bool) (f : Intent → ℕ) (t : Intent → Bool) (ps : List Intent) → total f (filter t (queue ahead ps)) ≡ total f (filter t ps)
-part_queue ahead f t ps = total_keep f t (queue ahead ps) ∙ total_queue ahead _ ps ∙ sym (total_keep f t ps)
+part_queue ahead f t ps = total_filter f t (queue ahead ps) ∙ total_queue ahead _ ps ∙ sym (total_filter f t ps)
 
 abbrev pub remaining_of : List Intent → ℕ
 remaining_of ps = total (λ (p : Intent). p.remaining) ps
@@ -29,9 +29,8 @@ remaining_of ps = total (λ (p : Intent). p.remaining) ps
 -- no way to hand out shares gives a part more than there is, or more than it has left
 pub part_capped : (volume : ℕ) (ps : List Intent) (give : ℕ → ℕ) (t : Intent → Bool) → Allotment volume ps give → handed give (filter t ps) ≤ min volume (remaining_of (filter t ps))
 part_capped volume ps give t h =
-    let part = total_part (λ (p : Intent). give p.number) t ps in
-    let each = total_least (λ (p : Intent). give p.number) (λ (p : Intent). p.remaining) (filter t ps) (each_keep _ t ps h.each) in
-    omega (arith, h.all)
+    omega (arith, h.all, total_part (λ (p : Intent). give p.number) t ps,
+    total_least (λ (p : Intent). give p.number) (λ (p : Intent). p.remaining) (filter t ps) (each_filter _ t ps h.each))
 
 module _ (ahead : Standing → Standing → Bool) (order : Orderly ahead)
     (active price mark volume : ℕ) (ps : List Intent) (apart : Pairwise Apart ps) where
@@ -49,13 +48,12 @@ module _ (ahead : Standing → Standing → Bool) (order : Orderly ahead)
   pub served_groups : AllByRecursion (λ (g : Intent). handed (given served) (leading_group ahead g ps) ≡ min volume (remaining_of (leading_group ahead g ps))) ps
   served_groups =
       queue_each ahead _ ps (each_weaker _ _ (λ g k.
-      let handed_same = part_queue ahead (λ (p : Intent). given served p.number) (leads ahead g) ps in
-      let left_same = part_queue ahead (λ (p : Intent). p.remaining) (leads ahead g) ps in
-      omega arith) (queue ahead ps) (groups_served ahead order active price mark volume (queue ahead ps) (ordered_queue ahead order ps apart)))
+      omega (arith, part_queue ahead (λ (p : Intent). given served p.number) (leads ahead g) ps, part_queue ahead (λ (p : Intent). p.remaining) (leads ahead g) ps))
+      (queue ahead ps) (groups_served ahead order active price mark volume (queue ahead ps) (ordered_queue ahead order ps apart)))
 
   -- so no allotment gives it more
   pub served_most : (give : ℕ → ℕ) → Allotment volume ps give → AllByRecursion (λ (g : Intent). handed give (leading_group ahead g ps) ≤ handed (given served) (leading_group ahead g ps)) ps
-  served_most give h = each_weaker _ _ (λ g k. let cap = part_capped volume ps give (leads ahead g) h in omega arith) ps served_groups
+  served_most give h = each_weaker _ _ (λ g k. omega (arith, part_capped volume ps give (leads ahead g) h)) ps served_groups
 
 -- a lawful priority lines up those that it is asked of
 pub orderly : (rules : Rules) (s : ℕ) → LawfulRules rules → Orderly (rules.ahead s)

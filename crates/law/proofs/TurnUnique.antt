@@ -1,8 +1,9 @@
 -- THE TURN IS THE ONLY ONE: the law of a turn leaves no choice of fills.
 -- `turn_unique` compares two turns, `turn_only` says that a turn's fills are the model's.
-use Rattle.std.proofs.Common.{◌≡◌, ℕ, ◌<◌, Bool, cond, eqb, ltb, List, [], ◌∷◌, Some, None, Option, sym, refl, ap, ◌∙◌, ap₂, ⊎_elim, arith}
-use Rattle.std.proofs.lemmas.Bool.{cond-true, cond-false, cases_eq, eq-eqb, ne_eqb, lt-ltb, le-ltb}
+use Rattle.std.proofs.Common.{◌≡◌, ℕ, ◌<◌, Bool, cond, ltb, List, [], ◌∷◌, Some, None, Option, sym, refl, ap, ◌∙◌, ⊎_elim, arith}
+use Rattle.std.proofs.lemmas.Bool.{cases_eq}
 use Rattle.std.specs.List.{AllByRecursion}
+use Rattle.std.proofs.lemmas.Bool.Decides.{nat_tests}
 use Rattle.rules.specs.declared.quotes.Quote.{Quote}
 use Rattle.rules.specs.declared.intents.Standing.{Standing}
 use Rattle.rules.specs.declared.intents.Intent.{Intent}
@@ -13,7 +14,7 @@ use Rattle.law.specs.Accounts.{Account, quote_in_force, eligible_for, find}
 use Rattle.law.specs.Turns.{Rules, LawfulRules, handed, leading_group, given, active_number, DueSlip, Precedes, Turn, OnlyTurn, Sound}
 use Rattle.law.specs.Models.{queue, turn_fills}
 use Rattle.law.proofs.Lists.{T_false, each_weaker, each_join}
-use Rattle.law.proofs.Numbers.{Apart, each_find, find_later, find_each, find_in}
+use Rattle.law.proofs.Numbers.{Apart, each_find, find_each, find_in}
 use Rattle.law.proofs.Fills.{given_nothing}
 use Rattle.law.proofs.Queue.{Before, Orderly, each_queue, queue_each, behind_not, ordered_queue, apart_queue}
 use Rattle.law.proofs.Serve.{slip, leads, group_first, group_later}
@@ -43,7 +44,7 @@ module _ (active price mark : ℕ) where
 
   -- such a slip is told by its number and volume
   slip_is : (p : Intent) (f : Fill) (ps : List Intent) → Due ps f → f.passive ≡ p.number → slip active price mark p f.volume ≡ f
-  slip_is p f ps d e = λ j. record { active = sym d.active_is j; passive = sym e j; volume = f.volume; price = sym d.price_is j; mark = sym d.mark_is j }
+  slip_is p f ps d e = grind arith
 
   -- where nobody stands in the line, no slip is due
   none_due : (fs : List Fill) → AllByRecursion (Due []) fs → fs ≡ []
@@ -52,8 +53,7 @@ module _ (active price mark : ℕ) where
 
   -- slips that are not for the first are for the rest of the line
   due_later : (p : Intent) (ps : List Intent) (fs : List Fill) → AllByRecursion (λ (f : Fill). f.passive ≡ p.number → ⊥) fs → AllByRecursion (Due (p ∷ ps)) fs → AllByRecursion (Due ps) fs
-  due_later p ps fs h k =
-      each_join _ _ _ (λ f n d. record { some = d.some; active_is = d.active_is; price_is = d.price_is; mark_is = d.mark_is; passive = d.passive; found = sym (find_later f.passive p ps (λ e. n (sym e))) ∙ d.found }) fs h k
+  due_later p ps fs h k = each_join _ _ _ (λ f n d. grind (arith, nat_tests)) fs h k
 
   -- slips that stand in the order of the line are those along it
   module _ (ahead : Standing → Standing → Bool) (line : Orderly ahead) (resting : List Intent) where
@@ -62,23 +62,21 @@ module _ (active price mark : ℕ) where
         AllByRecursion (λ (q : Intent). find q.number resting ≡ Some q) ps → AllByRecursion (Before ahead p) ps → AllByRecursion (Precedes ahead resting f) fs → AllByRecursion (λ (g : Fill). g.passive ≡ p.number → ⊥) fs
     none_for_first p ps f fs other due mine found before order =
         let r : Intent = due.passive in
-        let behind : find f.passive ps ≡ Some r = sym (find_later f.passive p ps (λ e. other (sym e))) ∙ due.found in
+        let behind : find f.passive ps ≡ Some r = let found_first = due.found in grind (arith, nat_tests) in
         let r_found : find f.passive resting ≡ Some r = find_in ps resting found f.passive r behind in
         let p_r : Before ahead p r = each_find (Before ahead p) f.passive ps r before behind in
         each_weaker _ _ (λ g o e. T_false (behind_not ahead line p r p_r) (o.first r p r_found (ap (λ (n : ℕ). find n resting) e ∙ mine))) fs order
 
     -- who gets no slip adds none
     not_first : (p : Intent) (ps : List Intent) (fs : List Fill) → AllByRecursion (λ (f : Fill). f.passive ≡ p.number → ⊥) fs → slips_along active price mark (given fs) (p ∷ ps) ≡ slips_along active price mark (given fs) ps
-    not_first p ps fs h = cond-false (ltb 0 (given fs p.number)) _ _ (le-ltb 0 (given fs p.number) (omega (arith, given_nothing p.number fs h)))
+    not_first p ps fs h = grind (arith, nat_tests, given_nothing p.number fs h)
 
     -- where the first slip is for the first of the line, the others are along the rest
     for_first : (p : Intent) (ps : List Intent) (f : Fill) (fs : List Fill) → f.passive ≡ p.number → Due (p ∷ ps) f → AllByRecursion (Apart p) ps → AllByRecursion (λ (g : Fill). g.passive ≡ p.number → ⊥) fs →
         slips_along active price mark (given (f ∷ fs)) (p ∷ ps) ≡ f ∷ slips_along active price mark (given fs) ps
     for_first p ps f fs e due apart others =
-        let mine : cond (eqb f.passive p.number) f.volume 0 ≡ f.volume = cond-true (eqb f.passive p.number) _ 0 (eq-eqb _ _ e) in
-        let whole : given (f ∷ fs) p.number ≡ f.volume = omega (arith, given_nothing p.number fs others) in
-        let rest = along_same (given (f ∷ fs)) (given fs) ps (each_weaker (Apart p) _ (λ q k. omega (arith, cond-false (eqb f.passive q.number) f.volume 0 (ne_eqb _ _ (λ l. k (sym e ∙ l))))) ps apart) in
-        cond-true (ltb 0 (given (f ∷ fs) p.number)) _ _ (lt-ltb 0 _ (omega (arith, due.some))) ∙ ap₂ ◌∷◌ (ap (slip active price mark p) whole ∙ slip_is p f (p ∷ ps) due e) rest
+        grind (arith, nat_tests, slip_is p f (p ∷ ps) due, given_nothing p.number fs others,
+        along_same (given (f ∷ fs)) (given fs) ps (each_weaker (Apart p) _ (λ q k. grind (arith, nat_tests)) ps apart))
 
     -- slips in the order of the line are told by what they give
     pub read_back : (ps : List Intent) (fs : List Fill) → AllByRecursion (λ (p : Intent). find p.number resting ≡ Some p) ps → Pairwise (Before ahead) ps →

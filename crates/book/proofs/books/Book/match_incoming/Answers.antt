@@ -1,6 +1,6 @@
 use Rattle.std.proofs.Common.{take, refl, arith}
 use Rattle.law.proofs.Lawful.{table_parts, lawful_count}
-use Rattle.law.proofs.Lists.{keep_short}
+use Rattle.law.proofs.Lists.{length-filter-le}
 use Rattle.law.specs.Turns.{rules_by}
 use Rattle.ledger.specs.Ledgers.{memory}
 use Rattle.ledger.specs.Places.{live}
@@ -14,7 +14,7 @@ turn_among-turned-requires g c =
     record {
       within = omega (arith, (table_parts l.count l.next table c.requires.lawful).fits);
       apart = lawful_distinct l.count l.next table c.requires.lawful;
-      room = omega (arith, keep_short live (take l.count table), lawful_count l.count l.next table c.requires.lawful, c.requires.room);
+      room = omega (arith, length-filter-le live (take l.count table), lawful_count l.count l.next table c.requires.lawful, c.requires.room);
     }
 
 pub returns : goal.returns
