@@ -1,6 +1,6 @@
 -- The account of a run: what calls and fill slips come to.
 use Rattle.std.specs.Prelude.{ℕ, ◌+◌, ◌-◌, cond, not, ◌||◌, List, [], ◌∷◌, Some, None, Option, ◌==◌, nat_lt, slice_index_or}
-use Rattle.std.specs.List.{filter}
+use Rattle.std.specs.List.{filter, find as find_first}
 use Rattle.rules.specs.declared.intents.Intent.{Intent}
 use Rattle.rules.specs.declared.intents.Side.{Side}
 use Rattle.rules.specs.declared.incoming.Incoming.{Incoming}
@@ -70,8 +70,7 @@ left_of n ps = total (λ (p : Intent). cond (p.number == n) p.remaining 0) ps
 
 -- the intent with a number
 abbrev pub find : ℕ → List Intent → Option Intent
-find n [] = None
-find n (p ∷ ps) = cond (p.number == n) (Some p) (find n ps)
+find n ps = find_first (λ (p : Intent). p.number == n) ps
 
 -- an account with other resting intents
 abbrev pub holding : Account → List Intent → Account

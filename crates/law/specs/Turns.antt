@@ -1,6 +1,6 @@
 -- The law of one turn: what its fill slips must be, whoever made them.
-use Rattle.std.specs.Prelude.{◌≡◌, ℕ, ◌<◌, ◌≤◌, Bool, true, cond, not, ◌||◌, T, List, [], ◌∷◌, ◌++◌, Some, None, Option, ◌==◌, ◌≢◌}
-use Rattle.std.specs.List.{filter, AllByRecursion}
+use Rattle.std.specs.Prelude.{◌≡◌, ℕ, ◌<◌, ◌≤◌, Bool, true, cond, not, ◌||◌, T, List, [], ◌∷◌, Some, None, Option, ◌==◌, ◌≢◌}
+use Rattle.std.specs.List.{filter, flat_map, AllByRecursion}
 use Rattle.rules.specs.declared.incoming.Incoming.{Incoming}
 use Rattle.rules.specs.declared.intents.Intent.{Intent}
 use Rattle.rules.specs.declared.intents.Side.{Side}
@@ -98,8 +98,7 @@ fill_of (Filled f) = f ∷ []
 fill_of (Lapsed l) = []
 
 abbrev pub fills : List Slip → List Fill
-fills [] = []
-fills (s ∷ ss) = fill_of s ++ fills ss
+fills ss = flat_map fill_of ss
 
 -- a quote that is there is lawful
 abbrev pub LawfulIfAny : Option Quote → Type 0

@@ -1,10 +1,10 @@
 -- What a scan of the table finds.
-use Rattle.std.proofs.Common.{◌≡◌, ℕ, ◌+◌, ◌-◌, ◌<◌, ◌≤◌, Bool, cond, ◌&&◌, eqb, ltb, List, [], ◌∷◌, length, take, drop, Some, None, Option, slice_get, sym, refl, subst, ap, ◌∙◌, arith}
+use Rattle.std.proofs.Common.{◌≡◌, ℕ, ◌+◌, ◌-◌, ◌<◌, ◌≤◌, Bool, ◌&&◌, ltb, List, length, take, drop, Some, None, Option, sym, refl, subst, ap, ◌∙◌, arith}
 use Rattle.std.proofs.lemmas.List.Folds.{find_at}
 use Rattle.std.proofs.lemmas.List.{drop-take}
 use Rattle.std.proofs.lemmas.Bool.{le-leb, ltb-true, ltb-false, cond_both}
 use Rattle.std.proofs.lemmas.Option.{slice_get-get_or, slice_get_past}
-use Rattle.std.specs.List.{find as find_first, position, position_or_len, list_all}
+use Rattle.std.specs.List.{position, position_or_len, list_all}
 use Rattle.rules.specs.Blanks.{blank_intent}
 use Rattle.rules.specs.declared.intents.Intent.{Intent}
 use Rattle.rules.specs.Intents.{is_blank}
@@ -22,19 +22,12 @@ lawful_parts count next table h =
     ∙ ap (λ (l : List Intent). lawful_intents 0 next (take count table) && list_all is_blank l) (ap (λ (k : ℕ). drop count (take k table)) whole ∙ drop-take count (capacity table - count) table)
     ∙ ap (λ (k : ℕ). lawful_intents 0 next (take k table) && list_all is_blank (take (capacity table - count) (drop count table))) front
 
-find_numbered : (n : ℕ) (ps : List Intent) → find n ps ≡ find_first (has_number n) ps
-find_numbered n [] = refl
-find_numbered n (p ∷ ps) = ap (cond (eqb p.number n) (Some p)) (find_numbered n ps)
-
 -- the intent with a number stands in the first place that has it
-found_at : (n : ℕ) (ps : List Intent) → find n ps ≡ slice_get ps (position_or_len (has_number n) ps)
-found_at n ps = find_numbered n ps ∙ find_at (has_number n) ps
-
 pub found_here : (n : ℕ) (ps : List Intent) → position_or_len (has_number n) ps < length ps → find n ps ≡ Some (at ps (position_or_len (has_number n) ps))
-found_here n ps h = found_at n ps ∙ slice_get-get_or ps (position_or_len (has_number n) ps) blank_intent h
+found_here n ps h = find_at (has_number n) ps ∙ slice_get-get_or ps (position_or_len (has_number n) ps) blank_intent h
 
 pub found_nowhere : (n : ℕ) (ps : List Intent) → length ps ≤ position_or_len (has_number n) ps → find n ps ≡ None
-found_nowhere n ps h = found_at n ps ∙ slice_get_past ps (position_or_len (has_number n) ps) h
+found_nowhere n ps h = find_at (has_number n) ps ∙ slice_get_past ps (position_or_len (has_number n) ps) h
 
 -- what is found, by the place where it is
 abbrev pub Located : ℕ → List Intent → Option ℕ → Type 0
