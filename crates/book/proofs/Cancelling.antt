@@ -1,9 +1,9 @@
 -- The call cancel: the intent that is emptied leaves.
-use Rattle.std.proofs.Common.{◌≡◌, ℕ, zero, suc, ◌+◌, ◌-◌, ◌<◌, ◌≤◌, Bool, true, false, cond, not, eqb, List, [], ◌∷◌, ◌++◌, length, take, drop, set, replicate, Ok, sym, refl, ap, ◌∙◌, ⊎_elim, arith, drop-set-lt}
+use Rattle.std.proofs.Common.{Some, ◌≡◌, ℕ, zero, suc, ◌-◌, ◌<◌, ◌≤◌, true, not, eqb, List, [], ◌∷◌, ◌++◌, length, take, drop, set, replicate, Ok, sym, refl, ap, ◌∙◌, arith, drop-set-lt}
 use Rattle.std.specs.List.{filter, AllByRecursion, position_or_len}
 use lib.Seq.{take-set-lt}
 use Rattle.std.proofs.lemmas.List.{get_or-take}
-use Rattle.std.proofs.lemmas.Bool.{cond-true, cases_lt, both_ways, lt-ltb, eqb-true, ne_eqb}
+use Rattle.std.proofs.lemmas.Bool.Decides.{nat_tests}
 use Rattle.rules.specs.declared.intents.Intent.{Intent}
 use Rattle.rules.specs.Blanks.{blank_intent}
 use Rattle.law.specs.declared.calls.Call.TheVariants.{Cancel as cancel_call}
@@ -21,7 +21,7 @@ use Rattle.law.proofs.Lists.{each_weaker, filter_all, length-filter-le}
 use Rattle.law.proofs.Numbers.{Apart, rising_apart}
 use Rattle.law.proofs.Outcomes.{after_accepted}
 use Rattle.ledger.specs.Places.{at, live, has_number}
-use Rattle.ledger.proofs.Scans.{found_here, found_nowhere}
+use Rattle.ledger.proofs.Scans.{found}
 use Rattle.book.proofs.Matching.{laid_out_less}
 
 -- the place of the intent with a number
@@ -32,24 +32,14 @@ place_in n ps = position_or_len (has_number n) ps
 emptied_leaves : (n : ℕ) (ps : List Intent) (k : ℕ) → AllByRecursion (λ (p : Intent). 1 ≤ p.remaining) ps → Pairwise Apart ps → k ≡ place_in n ps → k < length ps →
     filter live (set ps k (with_left (at ps k) 0)) ≡ without n ps
 emptied_leaves n [] k some apart is here = absurd (omega arith)
-emptied_leaves n (p ∷ ps) k some apart is here = by (eqb p.number n) refl k is here (λ j. emptied_leaves n ps j some.1 apart.1)
-  where
-    by : (b : Bool) → eqb p.number n ≡ b → (k : ℕ) → k ≡ cond (not b) (1 + place_in n ps) 0 → k < suc (length ps) →
-        ((j : ℕ) → j ≡ place_in n ps → j < length ps → filter live (set ps j (with_left (at ps j) 0)) ≡ without n ps) →
-        filter live (set (p ∷ ps) k (with_left (at (p ∷ ps) k) 0)) ≡ cond (not b) (p ∷ without n ps) (without n ps)
-    by true e zero is l more =
-        filter_all live ps (each_weaker _ _ (λ q h. lt-ltb 0 q.remaining h) ps some.1)
-        ∙ sym (filter_all (λ (q : Intent). not (eqb q.number n)) ps (each_weaker _ _ (λ q d. ap not (ne_eqb _ _ (λ k. d (eqb-true p.number n e ∙ sym k)))) ps apart.0))
-    by true e (suc k) is l more = absurd (omega arith)
-    by false e zero is l more = absurd (omega arith)
-    by false e (suc k) is l more =
-        cond-true (live p) (p ∷ filter live (set ps k (with_left (at ps k) 0))) _ (lt-ltb 0 p.remaining some.0)
-        ∙ ap (λ (l : List Intent). p ∷ l) (more k (omega arith) (omega arith))
+emptied_leaves n (p ∷ ps) zero some apart is here =
+    grind (arith, nat_tests, filter_all live ps (each_weaker _ _ (λ q h. grind (arith, nat_tests)) ps some.1),
+    λ (e : p.number ≡ n). filter_all (λ (q : Intent). not (eqb q.number n)) ps (each_weaker _ _ (λ q d. grind (arith, nat_tests)) ps apart.0))
+emptied_leaves n (p ∷ ps) (suc k) some apart is here = grind (arith, nat_tests, emptied_leaves n ps k some.1 apart.1)
 
 -- where the check passes, the number is that of a resting intent
 is_there : (subscriber n : ℕ) (ps : List Intent) → is_of subscriber (find n ps) ≡ true → place_in n ps < length ps
-is_there subscriber n ps e =
-    ⊎_elim (λ l. l) (λ l. absurd (both_ways false refl (sym (ap (is_of subscriber) (found_nowhere n ps l)) ∙ e))) (cases_lt (place_in n ps) (length ps))
+is_there subscriber n ps e = grind (arith, nat_tests, found n ps)
 
 module _ (rules : Rules) (m : Memory) (r : Reference) (place : ℕ) (passed : Ok place ≡ checked (cancel_checks m r.subscriber r.number) (place_in r.number (take m.count m.table))) where
   abbrev subscriber : ℕ
@@ -95,7 +85,9 @@ module _ (rules : Rules) (m : Memory) (r : Reference) (place : ℕ) (passed : Ok
 
   pub cancel_answered : Ok (at m.table place).remaining ≡ cancel_answer m subscriber n
   cancel_answered =
-      ap Ok (ap (λ (x : Intent). x.remaining) same ∙ sym (left_found n ps (at ps (place_in n ps)) apart (found_here n ps here)))
+      let place_here = here in
+      let found_there : find n ps ≡ Some (at ps (place_in n ps)) = grind (arith, nat_tests, found n ps) in
+      ap Ok (ap (λ (x : Intent). x.remaining) same ∙ sym (left_found n ps (at ps (place_in n ps)) apart found_there))
       ∙ sym (checked_ok (cancel_checks m subscriber n) (place_in n ps) place (left_of n ps) (sym passed))
 
   pub cancel_after : (count' : ℕ) (table' : List Intent) → count' ≡ length (filter live (take m.count emptied)) →

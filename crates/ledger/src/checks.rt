@@ -49,6 +49,7 @@ fn is_limit(limit: Option<u32>) -> bool
 }
 
 /// The place of the intent that a subscriber names.
+#[tactic(auto, using(crate::proofs::Scans::found))]
 fn place_of(intents: &[Intent], reference: &Reference) -> Result<usize, Refusal>
     ensures within { IfOk result (λ k. k < length intents.now) }
     ensures answer { result ≡ checked ((is_of reference.now.subscriber (find reference.now.number intents.now), NotResting) ∷ []) (position_or_len (has_number reference.now.number) intents.now) }

@@ -53,6 +53,7 @@ fn are_blank(places: &[Intent]) -> bool
 
 /// Whether the first places, as many as `count`, hold intents that may rest there, and all later places up to the capacity
 /// are blank.
+#[tactic(auto, using(crate::proofs::Scans::lawful_parts))]
 pub fn is_lawful(table: &[Intent], count: usize, next: u32) -> bool
     ensures { result ≡ lawful_table count next table.now }
 {
