@@ -33,8 +33,12 @@ emptied_leaves : (n : ℕ) (ps : List Intent) (k : ℕ) → AllByRecursion (λ (
     filter live (set ps k (with_left (at ps k) 0)) ≡ without n ps
 emptied_leaves n [] k some apart is here = absurd (omega arith)
 emptied_leaves n (p ∷ ps) zero some apart is here =
-    grind (arith, nat_tests, filter_all live ps (each_weaker _ _ (λ q h. grind (arith, nat_tests)) ps some.1),
-    λ (e : p.number ≡ n). filter_all (λ (q : Intent). not (eqb q.number n)) ps (each_weaker _ _ (λ q d. grind (arith, nat_tests)) ps apart.0))
+    grind (
+      arith,
+      nat_tests,
+      filter_all live ps (each_weaker _ _ (λ q h. grind (arith, nat_tests)) ps some.1),
+      λ (e : p.number ≡ n). filter_all (λ (q : Intent). not (eqb q.number n)) ps (each_weaker _ _ (λ q d. grind (arith, nat_tests)) ps apart.0),
+    )
 emptied_leaves n (p ∷ ps) (suc k) some apart is here = grind (arith, nat_tests, emptied_leaves n ps k some.1 apart.1)
 
 -- where the check passes, the number is that of a resting intent

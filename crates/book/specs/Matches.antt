@@ -1,5 +1,5 @@
 -- A turn and the closing up behind it, in the words of the model.
-use Rattle.std.specs.Prelude.{◌≡◌, ℕ, ◌-◌, ◌≤◌, List, map, length, Some, None, Option}
+use Rattle.std.specs.Prelude.{◌≡◌, ℕ, ◌-◌, ◌≤◌, List, map, length, IfSome, Option}
 use Rattle.rules.specs.declared.incoming.Incoming.{Incoming}
 use Rattle.rules.specs.declared.slips.Fill.{Fill}
 use Rattle.rules.specs.declared.slips.Slip.TheVariants.{Filled}
@@ -11,8 +11,7 @@ use Rattle.book.specs.declared.turns.Turned.{Turned}
 
 -- the party has no number, or one that no resting intent has yet
 abbrev pub ComesNew : Option ℕ → ℕ → Type 0
-ComesNew None next = Unit {0}
-ComesNew (Some n) next = next ≤ n
+ComesNew o next = IfSome o (λ n. next ≤ n)
 
 -- the memory after fills against resting intents, with a slip for each
 abbrev pub after_fills : Memory → List Fill → Memory

@@ -1,6 +1,6 @@
 -- Who is eligible: a part of those that rest, within both limits.
 -- The quote in force is a lawful one.
-use Rattle.std.proofs.Common.{◌≡◌, ℕ, Bool, arith, ◌&&◌, T, List, [], Some, None, Option, refl}
+use Rattle.std.proofs.Common.{◌≡◌, ℕ, Bool, arith, ◌&&◌, IsTrue, List, [], Some, None, Option, refl}
 use Rattle.std.proofs.lemmas.Bool.{cond_both}
 use Rattle.std.specs.List.{filter, AllByRecursion}
 use Rattle.std.proofs.lemmas.Bool.Decides.{nat_tests}
@@ -31,8 +31,8 @@ module _ (a : Account) (sound : Sound a) where
 -- ONE INTENT
 
 -- what is eligible is within both limits
-pub eligible_within : (q : Quote) (price : ℕ) (i : Incoming) (p : Intent) → T (eligible q price i p) →
-    T (within_limit p.side p.limit price) × T (within_any_limit i.side i.limit price)
+pub eligible_within : (q : Quote) (price : ℕ) (i : Incoming) (p : Intent) → IsTrue (eligible q price i p) →
+    IsTrue (within_limit p.side p.limit price) × IsTrue (within_any_limit i.side i.limit price)
 eligible_within q price i p h = grind (arith, nat_tests)
 
 -- WHAT IS ELIGIBLE

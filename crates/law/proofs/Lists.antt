@@ -1,18 +1,9 @@
 -- Lists: what holds of `AllByRecursion`, `Pairwise`, `filter` and `total`, of any element type.
--- Also a test as a type, `T b`, beside the equation `b ≡ true`.
-use Rattle.std.proofs.Common.{◌≡◌, ℕ, zero, suc, ◌+◌, ◌<◌, ◌≤◌, Bool, true, false, cond, T, List, [], ◌∷◌, length, get_or, refl, ap₂, arith}
+use Rattle.std.proofs.Common.{◌≡◌, ℕ, zero, suc, ◌+◌, ◌<◌, ◌≤◌, Bool, true, false, cond, List, [], ◌∷◌, length, get_or, refl, ap₂, arith}
 use Rattle.std.specs.List.{filter, AllByRecursion}
 use Rattle.std.proofs.lemmas.List.Elements.{All-from_recursion, recursion_from_All, All-filter, All-get_or, All-from_get_or, filter_passes}
 use Rattle.std.proofs.lemmas.List.Sums.{length-filter, count_by-le-length}
 use Rattle.law.specs.Lists.{total, Pairwise}
-
--- TESTS
-
-pub T_true : {b : Bool} → b ≡ true → T b
-T_true {b} e = rw e tt
-
-pub T_false : {b : Bool} → b ≡ false → T b → ⊥
-T_false {b} e t = rw e at t
 
 module _ {A : Type 0} where
   -- EACH

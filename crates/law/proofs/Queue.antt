@@ -64,8 +64,13 @@ module _ (ahead : Standing → Standing → Bool) (order : Orderly ahead) where
   pub ordered_place : (p : Intent) (qs : List Intent) → AllByRecursion (Apart p) qs → Pairwise (Before ahead) qs → Pairwise (Before ahead) (place ahead p qs)
   ordered_place p [] h k = (tt, tt)
   ordered_place p (q ∷ qs) h k =
-      grind (arith, ordered_place p qs h.1 k.1, before_other p q h.0, each_place ahead (Before ahead q) p qs,
-      λ (first : Before ahead p q). each_join (Apart p) (Before ahead q) (Before ahead p) (λ r. before_onward p q r first) qs h.1 k.0)
+      grind (
+        arith,
+        ordered_place p qs h.1 k.1,
+        before_other p q h.0,
+        each_place ahead (Before ahead q) p qs,
+        λ (first : Before ahead p q). each_join (Apart p) (Before ahead q) (Before ahead p) (λ r. before_onward p q r first) qs h.1 k.0,
+      )
 
   -- foremost first
   pub ordered_queue : (ps : List Intent) → Pairwise Apart ps → Pairwise (Before ahead) (queue ahead ps)

@@ -1,6 +1,6 @@
 -- THE TURN IS RIGHT: the model's fills of a turn are those that the law asks for.
 -- `turn_right` is the end; before it, that the served queue is an allotment and the most for each leading group.
-use Rattle.std.proofs.Common.{◌≡◌, ℕ, ◌≤◌, min, Bool, T, List, [], Some, None, Option, sym, refl, ◌∙◌, subst₂, arith}
+use Rattle.std.proofs.Common.{◌≡◌, ℕ, ◌≤◌, min, Bool, IsTrue, List, [], Some, None, Option, sym, refl, ◌∙◌, subst₂, arith}
 use Rattle.std.specs.List.{filter, AllByRecursion}
 use Rattle.rules.specs.declared.quotes.Quote.{Quote}
 use Rattle.rules.specs.declared.intents.Standing.{Standing}
@@ -13,7 +13,7 @@ use Rattle.law.specs.Lists.{total, Pairwise}
 use Rattle.law.specs.Accounts.{Account, quote_in_force, eligible_for, find}
 use Rattle.law.specs.Turns.{Rules, LawfulRules, handed, Allotment, leading_group, given, active_number, Priced, DueSlip, Precedes, Turn, LawfulIfAny, Sound}
 use Rattle.law.specs.Models.{queue, serve, fills_under, turn_fills}
-use Rattle.law.proofs.Lists.{T_true, each_weaker, each_join, each_filter, each_passes, pairwise_beside, total_least, total_filter, total_part}
+use Rattle.law.proofs.Lists.{each_weaker, each_join, each_filter, each_passes, pairwise_beside, total_least, total_filter, total_part}
 use Rattle.law.proofs.Numbers.{Apart, find_each}
 use Rattle.law.proofs.Queue.{Before, Orderly, each_queue, queue_each, total_queue, ordered_queue, apart_queue}
 use Rattle.law.proofs.Serve.{slip, each_serve, pairwise_serve, served_each, served_all, leads, groups_served}
@@ -29,8 +29,12 @@ remaining_of ps = total (λ (p : Intent). p.remaining) ps
 -- no way to hand out shares gives a part more than there is, or more than it has left
 pub part_capped : (volume : ℕ) (ps : List Intent) (give : ℕ → ℕ) (t : Intent → Bool) → Allotment volume ps give → handed give (filter t ps) ≤ min volume (remaining_of (filter t ps))
 part_capped volume ps give t h =
-    omega (arith, h.all, total_part (λ (p : Intent). give p.number) t ps,
-    total_least (λ (p : Intent). give p.number) (λ (p : Intent). p.remaining) (filter t ps) (each_filter _ t ps h.each))
+    omega (
+      arith,
+      h.all,
+      total_part (λ (p : Intent). give p.number) t ps,
+      total_least (λ (p : Intent). give p.number) (λ (p : Intent). p.remaining) (filter t ps) (each_filter _ t ps h.each),
+    )
 
 module _ (ahead : Standing → Standing → Bool) (order : Orderly ahead)
     (active price mark volume : ℕ) (ps : List Intent) (apart : Pairwise Apart ps) where
@@ -88,18 +92,18 @@ module _ (rules : Rules) (a : Account) (i : Incoming) (lawful : LawfulRules rule
     fills = fills_under rules (Some q) a i
 
     -- who stands among the eligible passes the test
-    passives_eligible : AllByRecursion (λ (p : Intent). T (eligible q price i p)) passives
-    passives_eligible = rw (eligible_some rules.price a i q e) (each_weaker _ _ (λ p t. T_true t) (filter (eligible q price i) a.resting) (each_passes (eligible q price i) a.resting))
+    passives_eligible : AllByRecursion (λ (p : Intent). IsTrue (eligible q price i p)) passives
+    passives_eligible = rw (eligible_some rules.price a i q e) (each_passes (eligible q price i) a.resting)
 
     -- p has a place in the line
     abbrev Lined : Intent → Type 0
-    Lined p = (1 ≤ p.remaining) × T (eligible q price i p) × (find p.number passives ≡ Some p)
+    Lined p = (1 ≤ p.remaining) × IsTrue (eligible q price i p) × (find p.number passives ≡ Some p)
 
     lined : AllByRecursion Lined line
     lined =
         each_queue ahead Lined passives
         (each_join _ _ Lined (λ p l w. (l, w.0, w.1)) passives (each_eligible rules.price a i _ sound.something_left)
-        (each_join _ _ (λ (p : Intent). T (eligible q price i p) × (find p.number passives ≡ Some p)) (λ p t f. (t, f)) passives passives_eligible (find_each passives (eligible_apart rules.price a i sound))))
+        (each_join _ _ (λ (p : Intent). IsTrue (eligible q price i p) × (find p.number passives ≡ Some p)) (λ p t f. (t, f)) passives passives_eligible (find_each passives (eligible_apart rules.price a i sound))))
 
     found : AllByRecursion (λ (p : Intent). find p.number a.resting ≡ Some p) line
     found = each_queue ahead _ passives (eligible_resting rules.price a i sound)
@@ -125,11 +129,11 @@ module _ (rules : Rules) (a : Account) (i : Incoming) (lawful : LawfulRules rule
 
     -- the resting intents under the two numbers stand as the two in the line do
     ahead_found : (p r p' r' : Intent) → (find p.number a.resting ≡ Some p) × (find r.number a.resting ≡ Some r) × Before ahead p r →
-        find p.number a.resting ≡ Some p' → find r.number a.resting ≡ Some r' → T (ahead (standing p') (standing r'))
+        find p.number a.resting ≡ Some p' → find r.number a.resting ≡ Some r' → IsTrue (ahead (standing p') (standing r'))
     ahead_found p r p' r' h e f =
         let one : p ≡ p' = cc in
         let two : r ≡ r' = cc in
-        subst₂ (λ (x y : Intent). T (ahead (standing x) (standing y))) one two (T_true h.2.1)
+        subst₂ (λ (x y : Intent). IsTrue (ahead (standing x) (standing y))) one two h.2.1
 
     turn_some : Turn rules a i fills
     turn_some = record {

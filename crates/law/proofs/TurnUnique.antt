@@ -1,7 +1,7 @@
 -- THE TURN IS THE ONLY ONE: the law of a turn leaves no choice of fills.
 -- `turn_unique` compares two turns, `turn_only` says that a turn's fills are the model's.
 use Rattle.std.proofs.Common.{◌≡◌, ℕ, ◌<◌, Bool, cond, ltb, List, [], ◌∷◌, Some, None, Option, sym, refl, ap, ◌∙◌, ⊎_elim, arith}
-use Rattle.std.proofs.lemmas.Bool.{cases_eq}
+use Rattle.std.proofs.lemmas.Bool.{both_ways, cases_eq}
 use Rattle.std.specs.List.{AllByRecursion}
 use Rattle.std.proofs.lemmas.Bool.Decides.{nat_tests}
 use Rattle.rules.specs.declared.quotes.Quote.{Quote}
@@ -13,7 +13,7 @@ use Rattle.law.specs.Lists.{Pairwise}
 use Rattle.law.specs.Accounts.{Account, quote_in_force, eligible_for, find}
 use Rattle.law.specs.Turns.{Rules, LawfulRules, handed, leading_group, given, active_number, DueSlip, Precedes, Turn, OnlyTurn, Sound}
 use Rattle.law.specs.Models.{queue, turn_fills}
-use Rattle.law.proofs.Lists.{T_false, each_weaker, each_join}
+use Rattle.law.proofs.Lists.{each_weaker, each_join}
 use Rattle.law.proofs.Numbers.{Apart, each_find, find_each, find_in}
 use Rattle.law.proofs.Fills.{given_nothing}
 use Rattle.law.proofs.Queue.{Before, Orderly, each_queue, queue_each, behind_not, ordered_queue, apart_queue}
@@ -65,7 +65,7 @@ module _ (active price mark : ℕ) where
         let behind : find f.passive ps ≡ Some r = let found_first = due.found in grind (arith, nat_tests) in
         let r_found : find f.passive resting ≡ Some r = find_in ps resting found f.passive r behind in
         let p_r : Before ahead p r = each_find (Before ahead p) f.passive ps r before behind in
-        each_weaker _ _ (λ g o e. T_false (behind_not ahead line p r p_r) (o.first r p r_found (ap (λ (n : ℕ). find n resting) e ∙ mine))) fs order
+        each_weaker _ _ (λ g o e. both_ways _ (behind_not ahead line p r p_r) (o.first r p r_found (ap (λ (n : ℕ). find n resting) e ∙ mine))) fs order
 
     -- who gets no slip adds none
     not_first : (p : Intent) (ps : List Intent) (fs : List Fill) → AllByRecursion (λ (f : Fill). f.passive ≡ p.number → ⊥) fs → slips_along active price mark (given fs) (p ∷ ps) ≡ slips_along active price mark (given fs) ps
@@ -75,8 +75,13 @@ module _ (active price mark : ℕ) where
     for_first : (p : Intent) (ps : List Intent) (f : Fill) (fs : List Fill) → f.passive ≡ p.number → Due (p ∷ ps) f → AllByRecursion (Apart p) ps → AllByRecursion (λ (g : Fill). g.passive ≡ p.number → ⊥) fs →
         slips_along active price mark (given (f ∷ fs)) (p ∷ ps) ≡ f ∷ slips_along active price mark (given fs) ps
     for_first p ps f fs e due apart others =
-        grind (arith, nat_tests, slip_is p f (p ∷ ps) due, given_nothing p.number fs others,
-        along_same (given (f ∷ fs)) (given fs) ps (each_weaker (Apart p) _ (λ q k. grind (arith, nat_tests)) ps apart))
+        grind (
+          arith,
+          nat_tests,
+          slip_is p f (p ∷ ps) due,
+          given_nothing p.number fs others,
+          along_same (given (f ∷ fs)) (given fs) ps (each_weaker (Apart p) _ (λ q k. grind (arith, nat_tests)) ps apart),
+        )
 
     -- slips in the order of the line are told by what they give
     pub read_back : (ps : List Intent) (fs : List Fill) → AllByRecursion (λ (p : Intent). find p.number resting ≡ Some p) ps → Pairwise (Before ahead) ps →

@@ -1,5 +1,5 @@
 -- The account of a run: what calls and fill slips come to.
-use Rattle.std.specs.Prelude.{ℕ, ◌+◌, ◌-◌, cond, not, ◌||◌, List, [], ◌∷◌, Some, None, Option, ◌==◌, nat_lt, slice_index_or}
+use Rattle.std.specs.Prelude.{ℕ, ◌+◌, ◌-◌, if◌then◌else◌, not, ◌||◌, List, [], ◌∷◌, Some, None, Option, ◌==◌, nat_lt, slice_index_or}
 use Rattle.std.specs.List.{filter, find as find_first}
 use Rattle.rules.specs.declared.intents.Intent.{Intent}
 use Rattle.rules.specs.declared.intents.Side.{Side}
@@ -48,7 +48,7 @@ volume_of fs = total (λ (f : Fill). f.volume) fs
 
 -- the shares that fill slips give an intent, as either party
 abbrev pub traded : ℕ → List Fill → ℕ
-traded n fs = total (λ (f : Fill). cond (f.active == n || f.passive == n) f.volume 0) fs
+traded n fs = total (λ (f : Fill). if f.active == n || f.passive == n then f.volume else 0) fs
 
 abbrev pub with_left : Intent → ℕ → Intent
 with_left p v = record p { remaining = v }
@@ -58,7 +58,7 @@ abbrev pub lessen : List Fill → List Intent → List Intent
 lessen fs [] = []
 lessen fs (p ∷ ps) =
     let left : ℕ = p.remaining - traded p.number fs in
-    cond (nat_lt 0 left) (with_left p left ∷ lessen fs ps) (lessen fs ps)
+    if nat_lt 0 left then with_left p left ∷ lessen fs ps else lessen fs ps
 
 -- all but the intent with this number
 abbrev pub without : ℕ → List Intent → List Intent
@@ -66,7 +66,7 @@ without n ps = filter (λ (p : Intent). not (p.number == n)) ps
 
 -- the volume that an intent has left: 0 where it does not rest
 abbrev pub left_of : ℕ → List Intent → ℕ
-left_of n ps = total (λ (p : Intent). cond (p.number == n) p.remaining 0) ps
+left_of n ps = total (λ (p : Intent). if p.number == n then p.remaining else 0) ps
 
 -- the intent with a number
 abbrev pub find : ℕ → List Intent → Option Intent

@@ -1,5 +1,5 @@
 -- What is refused: for each call the tests that have to hold, in order, each with the refusal where it does not.
-use Rattle.std.specs.Prelude.{ℕ, Bool, true, false, cond, not, ◌&&◌, List, [], ◌∷◌, length, Some, None, Ok, Err, Option, Result, ◌==◌, nat_le, nat_lt}
+use Rattle.std.specs.Prelude.{ℕ, Bool, true, false, if◌then◌else◌, not, ◌&&◌, List, [], ◌∷◌, length, Some, None, Ok, Err, Option, Result, ◌==◌, nat_le, nat_lt}
 use Rattle.rules.specs.declared.intents.Intent.{Intent}
 use Rattle.rules.specs.declared.orders.Order.{Order}
 use Rattle.rules.specs.declared.refusals.Refusal.{Refusal}
@@ -20,7 +20,7 @@ Check = Bool × Refusal
 -- x, unless a test fails: then the refusal of the first that does
 abbrev pub checked : {A : Type 0} → List Check → A → Result A Refusal
 checked [] x = Ok x
-checked (c ∷ cs) x = cond c.0 (checked cs x) (Err c.1)
+checked (c ∷ cs) x = if c.0 then checked cs x else Err c.1
 
 abbrev pub is_price_if_any : Option ℕ → Bool
 is_price_if_any None = true

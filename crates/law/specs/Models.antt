@@ -1,5 +1,5 @@
 -- What a turn gives, step by step: the eligible intents in a queue, foremost first.
-use Rattle.std.specs.Prelude.{ℕ, ◌-◌, min, Bool, cond, List, [], ◌∷◌, Some, None, Option, nat_lt}
+use Rattle.std.specs.Prelude.{ℕ, ◌-◌, min, Bool, if◌then◌else◌, List, [], ◌∷◌, Some, None, Option, nat_lt}
 use Rattle.rules.specs.declared.incoming.Incoming.{Incoming}
 use Rattle.rules.specs.declared.intents.Intent.{Intent}
 use Rattle.rules.specs.declared.intents.Standing.{Standing}
@@ -12,7 +12,7 @@ use Rattle.law.specs.Turns.{Rules, active_number}
 -- into its place, behind all that it is not ahead of
 abbrev pub place : (Standing → Standing → Bool) → Intent → List Intent → List Intent
 place ahead p [] = p ∷ []
-place ahead p (q ∷ qs) = cond (ahead (standing p) (standing q)) (p ∷ (q ∷ qs)) (q ∷ place ahead p qs)
+place ahead p (q ∷ qs) = if ahead (standing p) (standing q) then p ∷ (q ∷ qs) else q ∷ place ahead p qs
 
 -- foremost first
 abbrev pub queue : (Standing → Standing → Bool) → List Intent → List Intent
@@ -23,9 +23,9 @@ queue ahead (p ∷ ps) = place ahead p (queue ahead ps)
 abbrev pub serve : ℕ → ℕ → ℕ → ℕ → List Intent → List Fill
 serve active price mark left [] = []
 serve active price mark left (p ∷ ps) =
-    cond (nat_lt 0 left)
-    (record { active = active; passive = p.number; volume = min p.remaining left; price = price; mark = mark } ∷ serve active price mark (left - min p.remaining left) ps)
-    []
+    if nat_lt 0 left
+    then record { active = active; passive = p.number; volume = min p.remaining left; price = price; mark = mark } ∷ serve active price mark (left - min p.remaining left) ps
+    else []
 
 abbrev pub fills_under : Rules → Option Quote → Account → Incoming → List Fill
 fills_under rules None a i = []

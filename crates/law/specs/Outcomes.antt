@@ -1,5 +1,5 @@
 -- What each call comes to: the answer or refusal, and all that it leaves behind.
-use Rattle.std.specs.Prelude.{ℕ, cond, List, [], is_ok, Ok, Err, Result}
+use Rattle.std.specs.Prelude.{ℕ, if◌then◌else◌, List, [], is_ok, Ok, Err, Result}
 use Rattle.rules.specs.declared.orders.Order.{Order}
 use Rattle.rules.specs.declared.refusals.Refusal.{Refusal}
 use Rattle.rules.specs.declared.slips.Fill.{Fill}
@@ -37,7 +37,7 @@ accepted rules m c = left_by m c (call_fills rules (account m) c)
 
 -- y where the checks refuse, and else x
 abbrev pub unless_refused : {A : Type 0} → List Check → A → A → A
-unless_refused cs x y = cond (is_ok (checked {A = Unit {0}} cs tt)) x y
+unless_refused cs x y = if is_ok (checked {A = Unit {0}} cs tt) then x else y
 
 abbrev pub enter_answer : Rules → Memory → Terms → Result Entered Refusal
 enter_answer rules m t = checked (enter_checks m t) (entered (account m) t (call_fills rules (account m) (enter_call t)))
