@@ -1,5 +1,5 @@
 -- The call cancel: the intent that is emptied leaves.
-use Rattle.std.proofs.Common.{Some, ◌≡◌, ℕ, zero, suc, ◌-◌, ◌<◌, ◌≤◌, true, not, eqb, List, [], ◌∷◌, ◌++◌, length, take, drop, set, replicate, Ok, sym, refl, ap, ◌∙◌, arith, drop-set-lt}
+use Rattle.std.proofs.Common.{is_ok, Some, ◌≡◌, ℕ, zero, suc, ◌-◌, ◌<◌, ◌≤◌, true, not, eqb, List, [], ◌∷◌, ◌++◌, length, take, drop, set, replicate, Ok, sym, refl, ap, ◌∙◌, arith, drop-set-lt}
 use Rattle.std.specs.List.{filter, AllByRecursion, position_or_len}
 use lib.Seq.{take-set-lt}
 use Rattle.std.proofs.lemmas.List.{get_or-take}
@@ -9,15 +9,15 @@ use Rattle.rules.specs.Blanks.{blank_intent}
 use Rattle.law.specs.declared.calls.Call.TheVariants.{Cancel as cancel_call}
 use Rattle.law.specs.declared.calls.Reference.{Reference}
 use Rattle.law.specs.Accounts.{with_left, without, left_of, find}
-use Rattle.law.specs.Checks.{checked, is_of, cancel_checks}
+use Rattle.law.specs.Checks.{Check, checked, is_of, cancel_checks}
 use Rattle.law.specs.Lists.{Pairwise}
-use Rattle.law.specs.Memories.{Memory, lawful_intents, lawful_table, laid_out}
+use Rattle.law.specs.Memories.{Memory, lawful_intents}
 use Rattle.law.specs.Outcomes.{cancel_answer, after}
 use Rattle.law.specs.Turns.{Rules}
-use Rattle.law.proofs.Checked.{checked_ok, checked_passes}
+use Rattle.law.proofs.Checked.{checked_ok}
 use Rattle.law.proofs.Lawful.{table_parts, lawful_count, lawful_left, lawful_rising}
 use Rattle.law.proofs.Lessened.{left_found}
-use Rattle.law.proofs.Lists.{each_weaker, filter_all, length-filter-le}
+use Rattle.law.proofs.Lists.{each_weaker, filter_all, filter_short}
 use Rattle.law.proofs.Numbers.{Apart, rising_apart}
 use Rattle.law.proofs.Outcomes.{after_accepted}
 use Rattle.ledger.specs.Places.{at, live, has_number}
@@ -45,66 +45,67 @@ emptied_leaves n (p ∷ ps) (suc k) some apart is here = grind (arith, nat_tests
 is_there : (subscriber n : ℕ) (ps : List Intent) → is_of subscriber (find n ps) ≡ true → place_in n ps < length ps
 is_there subscriber n ps e = grind (arith, nat_tests, found n ps)
 
-module _ (rules : Rules) (m : Memory) (r : Reference) (place : ℕ) (passed : Ok place ≡ checked (cancel_checks m r.subscriber r.number) (place_in r.number (take m.count m.table))) where
-  abbrev subscriber : ℕ
-  subscriber = r.subscriber
-
-  abbrev n : ℕ
-  n = r.number
-
+module _ (m : Memory) (r : Reference) (passed : is_ok (checked {A = Unit {0}} (cancel_checks m r.subscriber r.number) tt) ≡ true) where
   abbrev ps : List Intent
   ps = take m.count m.table
+
+  abbrev place : ℕ
+  place = place_in r.number ps
 
   -- the table with the intent emptied
   abbrev emptied : List Intent
   emptied = set m.table place (with_left (at m.table place) 0)
 
-  place_is : place ≡ place_in n ps
-  place_is = let e = checked_ok (cancel_checks m subscriber n) (place_in n ps) place (place_in n ps) (sym passed) in cc
-
-  lawful : lawful_table m.count m.next m.table ≡ true
-  lawful = (checked_passes (cancel_checks m subscriber n) (place_in n ps) place (sym passed)).0
+  tests : AllByRecursion (λ (c : Check). c.0 ≡ true) (cancel_checks m r.subscriber r.number)
+  tests = grind (arith, nat_tests)
 
   intents : lawful_intents 0 m.next ps ≡ true
-  intents = (table_parts m.count m.next m.table lawful).intents
+  intents = (table_parts m.count m.next m.table tests.0).intents
 
   apart : Pairwise Apart ps
   apart = rising_apart ps (lawful_rising 0 m.next ps intents)
 
-  here : place_in n ps < length ps
-  here = is_there subscriber n ps (checked_passes (cancel_checks m subscriber n) (place_in n ps) place (sym passed)).1.0
+  here : place < length ps
+  here = is_there r.subscriber r.number ps tests.1.0
 
-  many : length ps ≡ m.count
-  many = lawful_count m.count m.next m.table lawful
+  inside : place < m.count
+  inside = omega (arith, here, lawful_count m.count m.next m.table tests.0)
 
-  same : at m.table place ≡ at ps (place_in n ps)
-  same = ap (at m.table) place_is ∙ sym (get_or-take m.count m.table (place_in n ps) blank_intent (let l = many in let h = here in omega arith))
+  same : at m.table place ≡ at ps place
+  same = sym (get_or-take m.count m.table place blank_intent inside)
 
-  leaves : filter live (take m.count emptied) ≡ without n ps
+  leaves : filter live (take m.count emptied) ≡ without r.number ps
   leaves =
-      let inside : place < m.count = omega (arith, place_is, here, many) in
-      ap (filter live) (take-set-lt m.count m.table place (with_left (at m.table place) 0) inside
-      ∙ ap (λ (x : Intent). set ps place (with_left x 0)) same ∙ ap (λ (k : ℕ). set ps k (with_left (at ps (place_in n ps)) 0)) place_is)
-      ∙ emptied_leaves n ps (place_in n ps) (lawful_left 0 m.next ps intents) apart refl here
+      ap (filter live) (take-set-lt m.count m.table place (with_left (at m.table place) 0) inside ∙ ap (λ (x : Intent). set ps place (with_left x 0)) same)
+      ∙ emptied_leaves r.number ps place (lawful_left 0 m.next ps intents) apart refl here
 
-  pub cancel_answered : Ok (at m.table place).remaining ≡ cancel_answer m subscriber n
-  cancel_answered =
+  -- what is withdrawn is what remained of the intent
+  withdrawn_is : left_of r.number ps ≡ (at m.table place).remaining
+  withdrawn_is =
       let place_here = here in
-      let found_there : find n ps ≡ Some (at ps (place_in n ps)) = grind (arith, nat_tests, found n ps) in
-      ap Ok (ap (λ (x : Intent). x.remaining) same ∙ sym (left_found n ps (at ps (place_in n ps)) apart found_there))
-      ∙ sym (checked_ok (cancel_checks m subscriber n) (place_in n ps) place (left_of n ps) (sym passed))
+      let there : find r.number ps ≡ Some (at ps place) = grind (arith, nat_tests, found r.number ps) in
+      left_found r.number ps (at ps place) apart there ∙ sym (ap (λ (x : Intent). x.remaining) same)
 
-  pub cancel_after : (count' : ℕ) (table' : List Intent) → count' ≡ length (filter live (take m.count emptied)) →
-      table' ≡ filter live (take m.count emptied) ++ (replicate (m.count - count') blank_intent ++ drop m.count emptied) →
-      record { phase = m.phase; day = m.day; next = m.next; securities = m.securities; count = count'; table = table'; page = m.page } ≡ after rules m (cancel_call r)
-  cancel_after count' table' counted closed =
-      let inside : place < m.count = omega (arith, place_is, here, many) in
-      let rs : List Intent = without n ps in
-      let count_is : count' ≡ length rs = counted ∙ ap length leaves in
-      let table_is : table' ≡ laid_out rs m.table =
-      closed ∙ ap (λ (l : List Intent). l ++ (replicate (m.count - count') blank_intent ++ drop m.count emptied)) leaves
-      ∙ ap (λ (k : ℕ). rs ++ (replicate (m.count - k) blank_intent ++ drop m.count emptied)) count_is
-      ∙ ap (λ (l : List Intent). rs ++ (replicate (m.count - length rs) blank_intent ++ l)) (drop-set-lt m.count m.table place (with_left (at m.table place) 0) inside)
-      ∙ laid_out_less m.count m.next m.table rs lawful (omega (arith, length-filter-le (λ (p : Intent). not (eqb p.number n)) ps, many)) in
-      (λ j. record { phase = m.phase; day = m.day; next = m.next; securities = m.securities; count = count_is j; table = table_is j; page = m.page })
-      ∙ sym (after_accepted rules m (cancel_call r) (place_in n ps) place (sym passed))
+  -- the places are closed up behind it
+  pub cancel_after : (rules : Rules) →
+      let rs : List Intent = filter live (take m.count emptied) in
+      after rules m (cancel_call r) ≡ record m { count = length rs; table = rs ++ (replicate (m.count - length rs) blank_intent ++ drop m.count emptied) }
+  cancel_after rules =
+      let rs : List Intent = without r.number ps in
+      let closed = laid_out_less m.count m.next m.table rs tests.0 (omega (arith, filter_short (λ (p : Intent). not (eqb p.number r.number)) ps, lawful_count m.count m.next m.table tests.0)) in
+      let beyond = drop-set-lt m.count m.table place (with_left (at m.table place) 0) inside in
+      after_accepted rules m (cancel_call r) passed
+      ∙ sym (rw (leaves, beyond) (λ j. record m { count = length rs; table = closed j }))
+
+-- the answer is what remained in the place that the check found
+pub cancel_answered : (m : Memory) (r : Reference) (place : ℕ) → Ok place ≡ checked (cancel_checks m r.subscriber r.number) (place_in r.number (take m.count m.table)) →
+    Ok (at m.table place).remaining ≡ cancel_answer m r.subscriber r.number
+cancel_answered m r place passed =
+    let cs : List Check = cancel_checks m r.subscriber r.number in
+    let k : ℕ = place_in r.number (take m.count m.table) in
+    let left : ℕ = left_of r.number (take m.count m.table) in
+    let found_place = checked_ok cs k place k (sym passed) in
+    let place_is : place ≡ k = cc in
+    ap (λ (k : ℕ). Ok (at m.table k).remaining) place_is
+    ∙ ap Ok (sym (withdrawn_is m r (ap is_ok (checked_ok cs k place (tt {0}) (sym passed)))))
+    ∙ sym (checked_ok cs k place left (sym passed))

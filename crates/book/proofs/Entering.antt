@@ -1,9 +1,10 @@
 -- The call enter: its turn, and what is left of it behind the others.
-use Rattle.std.proofs.Common.{◌≡◌, ℕ, suc, ◌+◌, ◌-◌, ◌<◌, Bool, true, false, cond, ltb, List, [], ◌∷◌, ◌++◌, length, take, drop, set, replicate, Some, None, Ok, Option, sym, refl, ap, ◌∙◌, append_assoc, arith}
+use Rattle.std.proofs.Common.{is_ok, ◌≤◌, ◌≡◌, ℕ, suc, ◌+◌, ◌-◌, ◌<◌, Bool, true, false, cond, ltb, List, [], ◌∷◌, ◌++◌, length, take, drop, set, replicate, Some, None, Ok, Option, sym, refl, ap, ◌∙◌, append_assoc, arith}
 use Rattle.std.specs.List.{AllByRecursion}
 use lib.Seq.{set_at}
 use Rattle.std.proofs.lemmas.List.{append-nil, length_push}
-use Rattle.std.proofs.lemmas.Bool.{ltb-true}
+use Rattle.std.proofs.lemmas.Bool.{ltb-true, leb-true}
+use Rattle.std.proofs.lemmas.Grind.{common_steps}
 use Rattle.rules.specs.declared.incoming.Incoming.{Incoming}
 use Rattle.rules.specs.declared.intents.Intent.{Intent}
 use Rattle.rules.specs.declared.quotes.Quote.{Quote}
@@ -19,7 +20,7 @@ use Rattle.law.specs.Memories.{Memory, account, capacity, lawful_table, laid_out
 use Rattle.law.specs.Models.{queue, fills_under, turn_fills}
 use Rattle.law.specs.Outcomes.{enter_answer, after}
 use Rattle.law.specs.Turns.{Rules, active_number}
-use Rattle.law.proofs.Checked.{checked_ok, checked_passes}
+use Rattle.law.proofs.Checked.{checked_ok}
 use Rattle.law.proofs.Fills.{traded_active}
 use Rattle.law.proofs.Lawful.{table_parts, lawful_count, lawful_numbers}
 use Rattle.law.proofs.Lessened.{lessen_append, lessen_short, each_lessen, left_none, left_append, left_one}
@@ -27,8 +28,8 @@ use Rattle.law.proofs.Lists.{each_weaker}
 use Rattle.law.proofs.Outcomes.{after_accepted}
 use Rattle.law.proofs.Serve.{serve_active}
 use Rattle.book.specs.declared.turns.Turned.{Turned}
-use Rattle.book.specs.Matches.{Matched}
-use Rattle.book.proofs.Calling.{Passed}
+use Rattle.book.specs.Matches.{Matched, after_fills}
+use Rattle.book.proofs.Calling.{Passed, passed_tests}
 
 -- every slip of a turn carries the party's number
 fills_active : (rules : Rules) (a : Account) (i : Incoming) (o : Option Quote) → AllByRecursion (λ (f : Fill). f.active ≡ active_number i.number) (fills_under rules o a i)
@@ -37,8 +38,7 @@ fills_active rules a i (Some q) = serve_active (active_number i.number) (rules.p
 
 -- one more behind, or none
 rest_count : (b : Bool) (rs : List Intent) (x : Intent) → cond b (length rs + 1) (length rs) ≡ length (rs ++ cond b (x ∷ []) [])
-rest_count true rs x = sym (length_push rs x)
-rest_count false rs x = ap length (sym (append-nil rs))
+rest_count b rs x = grind (arith, common_steps)
 
 rest_table : (b : Bool) (rs : List Intent) (x : Intent) (table : List Intent) → length rs < capacity table →
     cond b (set (laid_out rs table) (length rs) x) (laid_out rs table) ≡ laid_out (rs ++ cond b (x ∷ []) []) table
@@ -50,6 +50,23 @@ rest_table true rs x table room =
     ∙ set_at rs blank_intent rest x (length rs) refl
     ∙ sym (append_assoc rs (x ∷ []) rest)
 rest_table false rs x table room = ap (λ (l : List Intent). laid_out l table) (sym (append-nil rs))
+
+-- what the checks of enter say of the memory
+pub record Open (m : Memory) : Type 0 where
+  pub lawful : lawful_table m.count m.next m.table ≡ true
+  pub room : m.count < capacity m.table
+  pub numbers : m.next ≤ 999999999
+
+pub open_by : (m : Memory) (t : Terms) → Passed (enter_checks m t) → Open m
+open_by m t passed =
+    let tests = passed_tests (enter_checks m t) passed in
+    record { lawful = tests.0; room = ltb-true m.count (capacity m.table) tests.1.1.1.1.1.1.1.0; numbers = leb-true m.next 999999999 tests.1.1.1.1.1.1.1.1.0 }
+
+-- there is a place behind those that fills leave
+pub free : (m : Memory) (t : Terms) → Passed (enter_checks m t) → (fs : List Fill) → length (lessen fs (take m.count m.table)) < capacity m.table
+free m t passed fs =
+    let open_now = open_by m t passed in
+    omega (arith, lessen_short fs (take m.count m.table), lawful_count m.count m.next m.table open_now.lawful)
 
 module _ (rules : Rules) (m : Memory) (t : Terms) (passed : Passed (enter_checks m t)) where
   abbrev new : Intent
@@ -65,14 +82,7 @@ module _ (rules : Rules) (m : Memory) (t : Terms) (passed : Passed (enter_checks
   left = t.volume - volume_of fs
 
   lawful : lawful_table m.count m.next m.table ≡ true
-  lawful = (checked_passes (enter_checks m t) tt tt passed).0
-
-  -- there is a place behind those that are left
-  pub free : length (lessen fs ps) < capacity m.table
-  free =
-      let tests = checked_passes (enter_checks m t) tt tt passed in
-      let room = ltb-true m.count (capacity m.table) tests.1.1.1.1.1.1.1.0 in
-      omega (arith, lessen_short fs ps, lawful_count m.count m.next m.table lawful)
+  lawful = (open_by m t passed).lawful
 
   mine : traded m.next fs ≡ volume_of fs
   mine = traded_active m.next fs (fills_active rules (account m) (intent_incoming new) (quote_in_force (account m) t.security))
@@ -89,23 +99,30 @@ module _ (rules : Rules) (m : Memory) (t : Terms) (passed : Passed (enter_checks
       let both = ap (left_of m.next) (lessen_append fs ps (new ∷ [])) ∙ left_append m.next (lessen fs ps) (lessen fs (new ∷ [])) in
       omega (arith, mine, left_one fs new)
 
-  module _ (m' : Memory) (r : Turned) (matched : Matched rules (intent_incoming new) m m' r) where
-    pub enter_answered : Ok (record { number = m.next; resting = r.left; slips = r.slips }) ≡ enter_answer rules m t
-    enter_answered =
-        let same : record { number = m.next; resting = r.left; slips = r.slips } ≡ entered (account m) t fs = λ j. record { number = m.next; resting = (matched.left ∙ left_is) j; slips = matched.slips j } in
-        ap Ok same ∙ sym (checked_ok (enter_checks m t) tt tt (entered (account m) t fs) passed)
+  -- the turn's answer, with what rests under the new number
+  pub enter_answered : {m' : Memory} {r : Turned} → Matched rules (intent_incoming new) m m' r → Ok (record { number = m.next; resting = r.left; slips = r.slips }) ≡ enter_answer rules m t
+  enter_answered {m'} {r} matched =
+      let same : record { number = m.next; resting = r.left; slips = r.slips } ≡ entered (account m) t fs = λ j. record { number = m.next; resting = (matched.left ∙ left_is) j; slips = matched.slips j } in
+      ap Ok same ∙ sym (checked_ok (enter_checks m t) (tt {0}) tt (entered (account m) t fs) (sym passed))
 
-    pub enter_after : (count' : ℕ) (table' : List Intent) → count' ≡ cond (ltb 0 r.left) (m'.count + 1) m'.count →
-        table' ≡ cond (ltb 0 r.left) (set m'.table m'.count (with_left new r.left)) m'.table →
-        record { phase = m'.phase; day = m'.day; next = m.next + 1; securities = m'.securities; count = count'; table = table'; page = m'.page } ≡ after rules m (enter_call t)
-    enter_after count' table' counted written_there =
-        let rs : List Intent = lessen fs ps in
-        let x : Intent = with_left new left in
-        let b : Bool = ltb 0 left in
-        let count_is : count' ≡ length (lessen fs (ps ++ (new ∷ []))) =
-        counted ∙ ap (λ (v : ℕ). cond (ltb 0 v) (m'.count + 1) m'.count) matched.left ∙ ap (λ (y : Memory). cond b (y.count + 1) y.count) matched.after ∙ rest_count b rs x ∙ sym (ap length resting) in
-        let table_is : table' ≡ laid_out (lessen fs (ps ++ (new ∷ []))) m.table =
-        written_there ∙ ap (λ (v : ℕ). cond (ltb 0 v) (set m'.table m'.count (with_left new v)) m'.table) matched.left
-        ∙ ap (λ (y : Memory). cond b (set y.table y.count x) y.table) matched.after ∙ rest_table b rs x m.table free ∙ sym (ap (λ (l : List Intent). laid_out l m.table) resting) in
-        (λ j. record { phase = (matched.after j).phase; day = (matched.after j).day; next = m.next + 1; securities = (matched.after j).securities; count = count_is j; table = table_is j; page = (matched.after j).page })
-        ∙ sym (after_accepted rules m (enter_call t) tt tt passed)
+  -- behind its turn the intent takes a number, and a place if anything is left of it
+  pub enter_after :
+      let m' : Memory = after_fills m fs in
+      after rules m (enter_call t) ≡ record {
+        phase = m'.phase;
+        day = m'.day;
+        next = m.next + 1;
+        securities = m'.securities;
+        count = cond (ltb 0 left) (m'.count + 1) m'.count;
+        table = cond (ltb 0 left) (set m'.table m'.count (with_left new left)) m'.table;
+        page = m'.page;
+      }
+  enter_after =
+      let rs : List Intent = lessen fs ps in
+      let x : Intent = with_left new left in
+      let b : Bool = ltb 0 left in
+      let count_is = ap length resting ∙ sym (rest_count b rs x) in
+      let table_is = ap (λ (l : List Intent). laid_out l m.table) resting ∙ sym (rest_table b rs x m.table (free m t passed fs)) in
+      let m' : Memory = after_fills m fs in
+      after_accepted rules m (enter_call t) (sym (ap is_ok passed))
+      ∙ (λ j. record { phase = m'.phase; day = m'.day; next = m.next + 1; securities = m'.securities; count = count_is j; table = table_is j; page = m'.page })

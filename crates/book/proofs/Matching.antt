@@ -1,8 +1,9 @@
 -- From a turn over the table in place to the model's turn on the account.
-use Rattle.std.proofs.Common.{◌≡◌, ℕ, suc, ◌+◌, ◌-◌, ◌<◌, ◌≤◌, Bool, true, cond, ◌&&◌, ltb, List, [], ◌∷◌, ◌++◌, map, length, take, drop, set, replicate, Some, None, Option, sym, refl, ap, ◌∙◌, subst, ⊎_elim, append_assoc, add-one, arith}
+use Rattle.std.proofs.Common.{◌≡◌, ℕ, suc, ◌+◌, ◌-◌, ◌<◌, ◌≤◌, true, List, [], ◌∷◌, ◌++◌, map, length, take, drop, set, replicate, Some, None, Option, sym, refl, ap, ◌∙◌, subst, ⊎_elim, append_assoc, add-one, arith}
 use Rattle.std.proofs.lemmas.List.Edits.{sets, sets-eq}
-use Rattle.std.proofs.lemmas.List.{length-map, get_or-take, drop_at, replicate-append-replicate}
-use Rattle.std.proofs.lemmas.Bool.{cases_lt, lt-ltb}
+use Rattle.std.proofs.lemmas.Bool.Decides.{nat_tests}
+use Rattle.std.proofs.lemmas.List.{length-take, length-map, get_or-take, drop_at, replicate-append-replicate}
+use Rattle.std.proofs.lemmas.Bool.{cases_lt}
 use Rattle.std.specs.List.{filter, AllByRecursion}
 use Rattle.rules.specs.declared.incoming.Incoming.{Incoming}
 use Rattle.rules.specs.declared.intents.Intent.{Intent}
@@ -12,7 +13,7 @@ use Rattle.rules.specs.declared.slips.Slip.{Slip}
 use Rattle.rules.specs.declared.slips.Slip.TheVariants.{Filled}
 use Rattle.rules.specs.Blanks.{blank_intent}
 use Rattle.rules.specs.Eligibility.{eligible}
-use Rattle.law.specs.Accounts.{Account, quote_in_force, traded, with_left, volume_of, lessen}
+use Rattle.law.specs.Accounts.{Account, quote_in_force, traded, volume_of, lessen}
 use Rattle.law.specs.Memories.{Memory, capacity, account, lawful_intents, lawful_table, laid_out, written}
 use Rattle.law.specs.Models.{queue, serve, fills_under, turn_fills}
 use Rattle.law.specs.Turns.{Rules, given, active_number}
@@ -20,11 +21,11 @@ use Rattle.law.proofs.Eligibility.{eligible_some}
 use Rattle.law.proofs.Fills.{traded_passive}
 use Rattle.law.proofs.Lawful.{table_parts, lawful_count, lawful_layout, lawful_numbers, lawful_rising, lawful_left}
 use Rattle.law.proofs.Lessened.{lessen_short}
-use Rattle.law.proofs.Lists.{each_weaker, length-filter-le, places_from_pairwise}
+use Rattle.law.proofs.Lists.{each_weaker, filter_short, places_from_pairwise}
 use Rattle.law.proofs.Serve.{serve_active}
 use Rattle.ledger.specs.Places.{at, live}
 use Rattle.book.specs.declared.turns.Turned.{Turned}
-use Rattle.book.specs.InPlace.{ready, turn_under, relieved, written_from, Distinct, Handed}
+use Rattle.book.specs.InPlace.{ready, turn_under, relieved, written_from, alive, Distinct, Handed}
 use Rattle.book.specs.Matches.{ComesNew, Matched}
 
 -- THE FILLS
@@ -33,10 +34,7 @@ use Rattle.book.specs.Matches.{ComesNew, Matched}
 filter_ready : (q : Quote) (price : ℕ) (i : Incoming) (ps : List Intent) → AllByRecursion (λ (p : Intent). 1 ≤ p.remaining) ps → filter (ready q price i) ps ≡ filter (eligible q price i) ps
 unfolding ready
 filter_ready q price i [] h = refl
-filter_ready q price i (p ∷ ps) h =
-    let live_p : live p ≡ true = lt-ltb 0 p.remaining h.0 in
-    ap (λ (b : Bool). cond (b && eligible q price i p) (p ∷ filter (ready q price i) ps) (filter (ready q price i) ps)) live_p
-    ∙ ap (λ (l : List Intent). cond (eligible q price i p) (p ∷ l) l) (filter_ready q price i ps h.1)
+filter_ready q price i (p ∷ ps) h = grind (arith, nat_tests, filter_ready q price i ps h.1)
 
 module _ (rules : Rules) (a : Account) (i : Incoming) (some : AllByRecursion (λ (p : Intent). 1 ≤ p.remaining) a.resting) where
   under : (o : Option Quote) → quote_in_force a i.security ≡ o → turn_under rules o i a.resting ≡ fills_under rules o a i
@@ -58,14 +56,11 @@ turn_active rules (Some q) i ps = serve_active (active_number i.number) (rules.p
 -- intents that are passive only: what is closed up is what the account has left
 pub closed_lessen : (fs : List Fill) (ps : List Intent) → AllByRecursion (λ (p : Intent). traded p.number fs ≡ given fs p.number) ps → filter live (map (relieved fs) ps) ≡ lessen fs ps
 closed_lessen fs [] h = refl
-closed_lessen fs (p ∷ ps) h =
-    ap (λ (n : ℕ). cond (ltb 0 (p.remaining - n)) (with_left p (p.remaining - n) ∷ filter live (map (relieved fs) ps)) (filter live (map (relieved fs) ps))) (sym h.0)
-    ∙ ap (λ (l : List Intent). cond (ltb 0 (p.remaining - traded p.number fs)) (with_left p (p.remaining - traded p.number fs) ∷ l) l) (closed_lessen fs ps h.1)
+closed_lessen fs (p ∷ ps) h = grind (arith, nat_tests, closed_lessen fs ps h.1)
 
 -- a new party's number is that of no resting intent
 not_active : (o : Option ℕ) (next n : ℕ) → ComesNew o next → 0 < n → n < next → active_number o ≡ n → ⊥
-not_active None next n new some below e = omega arith
-not_active (Some k) next n new some below e = omega arith
+not_active o next n new some below e = grind arith
 
 -- PAGES
 
@@ -74,10 +69,7 @@ written_sets page n [] = refl
 written_sets page n (f ∷ fs) = ap (λ (m : ℕ). written_from (set page n (Filled f)) m fs) (add-one n) ∙ written_sets (set page n (Filled f)) (suc n) fs
 
 pub written_whole : (page : List Slip) (fs : List Fill) → length fs ≤ length page → written_from page 0 fs ≡ written (map Filled fs) page
-written_whole page fs h =
-    let long : length (map Filled fs) ≡ length fs = length-map fs Filled in
-    let z : 0 + length (map Filled fs) ≡ length (map Filled fs) = omega arith in
-    written_sets page 0 fs ∙ sets-eq (map Filled fs) page 0 (omega arith) ∙ ap (λ (n : ℕ). map Filled fs ++ drop n page) z
+written_whole page fs h = grind (arith, written_sets page 0 fs, sets-eq (map Filled fs) page 0, length-map fs Filled)
 
 -- TABLES
 
@@ -99,6 +91,10 @@ laid_out_less count next table rs lawful short =
     (sym (append_assoc (replicate (count - length rs) blank_intent) (replicate (room - count) blank_intent) beyond)
     ∙ ap (λ (l : List Intent). l ++ beyond) (replicate-append-replicate (count - length rs) (room - count) blank_intent)
     ∙ ap (λ (n : ℕ). replicate n blank_intent ++ beyond) whole)
+
+-- among the first places no more are alive than there are places
+pub few_alive : (count : ℕ) (table : List Intent) → alive (take count table) ≤ count
+few_alive count table = omega (arith, filter_short live (take count table), length-take count table)
 
 -- numbers of a lawful table are apart, by places
 pub lawful_distinct : (count next : ℕ) (table : List Intent) → lawful_table count next table ≡ true → Distinct table count
@@ -148,7 +144,7 @@ module _ (rules : Rules) (m : Memory) (i : Incoming) (lawful : lawful_table m.co
       ∙ ap (λ (n : ℕ). rs ++ (replicate (m.count - n) blank_intent ++ drop m.count table)) count_is
       ∙ ap (λ (l : List Intent). rs ++ (replicate (m.count - length rs) blank_intent ++ l)) beyond
       ∙ laid_out_less m.count m.next m.table rs lawful (omega (arith, lessen_short fs ps)) in
-      let few : length fs ≤ length m.page = omega (arith, handed.few, handed.counted, ap length same_fills, length-filter-le live ps) in
+      let few : length fs ≤ length m.page = omega (arith, handed.few, handed.counted, ap length same_fills, filter_short live ps) in
       let page_is : page' ≡ written (map Filled fs) m.page = handed.pages ∙ ap (written_from m.page 0) same_fills ∙ written_whole m.page fs few in
       record {
         slips = handed.counted ∙ ap length same_fills;

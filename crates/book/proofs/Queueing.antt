@@ -1,6 +1,5 @@
 -- The queue's head is the one that no other ready one is ahead of.
-use Rattle.std.proofs.Common.{◌≡◌, ℕ, zero, suc, ◌<◌, Bool, true, false, cond, not, List, [], ◌∷◌, length, set, sym, refl, ap, ◌∙◌, arith}
-use Rattle.std.proofs.lemmas.Bool.{cond-true, cond-false}
+use Rattle.std.proofs.Common.{◌≡◌, ℕ, zero, suc, ◌<◌, Bool, true, false, not, List, [], ◌∷◌, length, set, refl, ap, ◌∙◌, arith}
 use Rattle.std.specs.List.{filter, AllByRecursion}
 use Rattle.rules.specs.declared.intents.Standing.{Standing}
 use Rattle.rules.specs.declared.intents.Intent.{Intent}
@@ -14,9 +13,12 @@ use Rattle.law.proofs.Lists.{each_join, each_filter, each_passes, each_from_plac
 use Rattle.law.proofs.Queue.{each_queue}
 
 module _ (ahead : Standing → Standing → Bool) where
-  pub place_first : (p : Intent) (qs : List Intent) → AllByRecursion (λ (q : Intent). ahead (standing p) (standing q) ≡ true) qs → place ahead p qs ≡ p ∷ qs
+  place_first : (p : Intent) (qs : List Intent) → AllByRecursion (λ (q : Intent). ahead (standing p) (standing q) ≡ true) qs → place ahead p qs ≡ p ∷ qs
   place_first p [] h = refl
-  place_first p (q ∷ qs) h = cond-true (ahead (standing p) (standing q)) _ _ h.0
+  place_first p (q ∷ qs) h = grind arith
+
+  place_behind : (p q : Intent) (qs : List Intent) → ahead (standing p) (standing q) ≡ false → place ahead p (q ∷ qs) ≡ q ∷ place ahead p qs
+  place_behind p q qs h = grind arith
 
 -- of two standings with different numbers one is ahead
 abbrev pub Sided : (Standing → Standing → Bool) → Type 0
@@ -34,16 +36,9 @@ module _ (ahead : Standing → Standing → Bool) (sided : Sided ahead) (t : Int
       let behind : AllByRecursion (λ (q : Intent). t q ≡ true → ahead (standing p) (standing q) ≡ true) ps =
       each_from_places blank_intent (λ (q : Intent). t q ≡ true → ahead (standing p) (standing q) ≡ true) ps
       (λ k h e. sided (standing p) (standing (at ps k)) (d 0 (suc k) (omega arith) (omega arith) (λ x. omega arith)) ∙ ap not (b (suc k) (omega arith) (λ x. omega arith) e)) in
-      let firsts : AllByRecursion (λ (q : Intent). ahead (standing p) (standing q) ≡ true) (queue ahead (filter t ps)) =
-      each_queue ahead (λ (q : Intent). ahead (standing p) (standing q) ≡ true) (filter t ps)
-      (each_join _ _ _ (λ q e h. h e) (filter t ps) (each_passes t ps) (each_filter _ t ps behind)) in
-      ap (queue ahead) (cond-true (t p) (p ∷ filter t ps) (filter t ps) r)
-      ∙ place_first ahead p (queue ahead (filter t ps)) firsts
-      ∙ sym (ap (λ (l : List Intent). p ∷ queue ahead l) (cond-false (t (with_left p 0)) (with_left p 0 ∷ filter t ps) (filter t ps) (emptied p)))
+      let firsts = each_queue ahead (λ (q : Intent). ahead (standing p) (standing q) ≡ true) (filter t ps) (each_join _ _ _ (λ q e h. h e) (filter t ps) (each_passes t ps) (each_filter _ t ps behind)) in
+      grind (arith, emptied p, place_first ahead p (queue ahead (filter t ps)) firsts)
   queue_head (p ∷ ps) (suc i) l r d b =
-      go (t p) refl (queue_head ps i (omega arith) r (λ j k x y z. d (suc j) (suc k) (omega arith) (omega arith) (λ e. z (omega arith))) (λ k x y. b (suc k) (omega arith) (λ e. y (omega arith))))
-    where
-      go : (v : Bool) → t p ≡ v → queue ahead (filter t ps) ≡ at ps i ∷ queue ahead (filter t (set ps i (with_left (at ps i) 0))) →
-          queue ahead (cond v (p ∷ filter t ps) (filter t ps)) ≡ at ps i ∷ queue ahead (cond v (p ∷ filter t (set ps i (with_left (at ps i) 0))) (filter t (set ps i (with_left (at ps i) 0))))
-      go true e ih = ap (place ahead p) ih ∙ cond-false (ahead (standing p) (standing (at ps i))) _ _ (b 0 (omega arith) (λ x. omega arith) e)
-      go false e ih = ih
+      let rest = queue_head ps i (omega arith) r (λ j k x y z. d (suc j) (suc k) (omega arith) (omega arith) (λ e. z (omega arith))) (λ k x y. b (suc k) (omega arith) (λ e. y (omega arith))) in
+      let first : t p ≡ true → ahead (standing p) (standing (at ps i)) ≡ false = b 0 (omega arith) (λ x. omega arith) in
+      grind (arith, rest, first, place_behind ahead p (at ps i) (queue ahead (filter t (set ps i (with_left (at ps i) 0)))))

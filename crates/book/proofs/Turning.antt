@@ -1,6 +1,8 @@
 -- One handing of a turn, over the table in place.
-use Rattle.std.proofs.Common.{◌≡◌, ℕ, zero, suc, ◌+◌, ◌-◌, ◌<◌, ◌≤◌, min, Bool, true, false, cond, eqb, ltb, List, [], ◌∷◌, map, length, set, sym, refl, ap, ◌∙◌, ⊎_elim, arith}
-use Rattle.std.proofs.lemmas.Bool.{cond_both, cond-true, cond-false, cases_lt, cases_eq, lt-ltb, ltb-true, ltb-false, eq-eqb, ne_eqb, and_parts}
+use Rattle.std.proofs.Common.{◌≡◌, ℕ, zero, suc, ◌+◌, ◌-◌, ◌<◌, ◌≤◌, min, Bool, true, false, ltb, List, [], ◌∷◌, map, length, set, sym, refl, ap, ◌∙◌, ⊎_elim, arith}
+use Rattle.std.proofs.lemmas.Bool.{cond-true, cases_lt, lt-ltb}
+use Rattle.std.proofs.lemmas.Bool.Decides.{nat_tests}
+use Rattle.std.proofs.lemmas.Grind.{common_steps}
 use Rattle.std.proofs.lemmas.List.{length-map, length-set, get_or-map, get_or-set_same, get_or-set_other, ext_get_or}
 use Rattle.std.specs.List.{filter}
 use Rattle.rules.specs.declared.quotes.Quote.{Quote}
@@ -14,7 +16,7 @@ use Rattle.law.specs.Accounts.{with_left, volume_of}
 use Rattle.law.specs.Turns.{active_number}
 use Rattle.law.specs.Models.{queue, serve}
 use Rattle.rules.specs.Blanks.{blank_intent}
-use Rattle.ledger.specs.Places.{at, live}
+use Rattle.ledger.specs.Places.{at}
 use Rattle.book.specs.InPlace.{ready, Distinct, Foremost, Nowhere, turn_of, relieved, written_from, alive, Handed}
 use Rattle.law.proofs.Lists.{each_from_places, filter_none}
 use Rattle.law.proofs.Serve.{serve_spent}
@@ -32,37 +34,30 @@ pub distinct_set : (ps : List Intent) (n k v : ℕ) → k < length ps → Distin
 distinct_set ps n k v h d i j x y z e = d i j x y z (sym (same i) ∙ e ∙ same j)
   where
     same : (j : ℕ) → (at (set ps k (with_left (at ps k) v)) j).number ≡ (at ps j).number
-    same j =
-        ⊎_elim (λ eq. ap (λ (m : ℕ). (at (set ps k (with_left (at ps k) v)) m).number) eq ∙ ap (λ (p : Intent). p.number) (get_or-set_same ps k (with_left (at ps k) v) blank_intent h) ∙ sym (ap (λ (m : ℕ). (at ps m).number) eq))
-        (λ ne. ap (λ (p : Intent). p.number) (get_or-set_other ps k j (with_left (at ps k) v) blank_intent ne)) (cases_eq j k)
+    same j = grind (arith, common_steps)
 
 -- a fill is taken off where its number stands
 pub relieved_more : (ps : List Intent) (k v : ℕ) (f : Fill) (fs : List Fill) → k < length ps → Distinct ps (length ps) → f.passive ≡ (at ps k).number → f.volume ≡ v →
     map (relieved (f ∷ fs)) ps ≡ map (relieved fs) (set ps k (less (at ps k) v))
 relieved_more ps k v f fs h d named big =
     let y : Intent = less (at ps k) v in
-    let long : length (map (relieved (f ∷ fs)) ps) ≡ length ps = length-map ps (relieved (f ∷ fs)) in
-    let long_set : length (set ps k y) ≡ length ps = length-set ps k y in
-    let long_after : length (map (relieved fs) (set ps k y)) ≡ length (set ps k y) = length-map (set ps k y) (relieved fs) in
-    ext_get_or blank_intent (map (relieved (f ∷ fs)) ps) (map (relieved fs) (set ps k y)) (omega arith)
+    ext_get_or blank_intent (map (relieved (f ∷ fs)) ps) (map (relieved fs) (set ps k y)) (simp (length-map, length-set))
     (λ j l.
-    get_or-map (relieved (f ∷ fs)) ps j blank_intent blank_intent (omega arith)
-    ∙ ⊎_elim
-    (λ eq.
-    let own : cond (eqb f.passive (at ps k).number) f.volume 0 ≡ f.volume = cond-true (eqb f.passive (at ps k).number) f.volume 0 (eq-eqb _ _ named) in
-    ap (λ (m : ℕ). relieved (f ∷ fs) (at ps m)) eq
-    ∙ ap (with_left (at ps k)) (omega arith)
-    ∙ sym (ap (relieved fs) (ap (λ (m : ℕ). at (set ps k y) m) eq ∙ get_or-set_same ps k y blank_intent h)))
-    (λ ne.
-    let other : cond (eqb f.passive (at ps j).number) f.volume 0 ≡ 0 =
-    cond-false (eqb f.passive (at ps j).number) f.volume 0 (ne_eqb _ _ (λ e. d j k (omega arith) h ne (sym e ∙ named))) in
-    ap (with_left (at ps j)) (omega arith) ∙ sym (ap (relieved fs) (get_or-set_other ps k j y blank_intent ne)))
-    (cases_eq j k)
-    ∙ sym (get_or-map (relieved fs) (set ps k y) j blank_intent blank_intent (omega arith)))
+    let in_ps : j < length ps = omega (arith, length-map ps (relieved (f ∷ fs))) in
+    grind (
+      arith,
+      nat_tests,
+      get_or-map (relieved (f ∷ fs)) ps j blank_intent blank_intent in_ps,
+      get_or-map (relieved fs) (set ps k y) j blank_intent blank_intent,
+      length-set ps k y,
+      get_or-set_same ps k y blank_intent h,
+      get_or-set_other ps k j y blank_intent,
+      d j k in_ps h,
+    ))
 
 pub relieved_none : (ps : List Intent) → map (relieved []) ps ≡ ps
 relieved_none [] = refl
-relieved_none (p ∷ ps) = let same : p.remaining - 0 ≡ p.remaining = omega arith in ap (λ (v : ℕ). with_left p v ∷ map (relieved []) ps) same ∙ ap (λ (l : List Intent). p ∷ l) (relieved_none ps)
+relieved_none (p ∷ ps) = grind (arith, relieved_none ps)
 
 module _ (ahead : Standing → Standing → Bool) (q : Quote) (price mark : ℕ) (i : Incoming) where
   abbrev pub slip : Intent → ℕ → Fill
@@ -94,16 +89,8 @@ module _ (ahead : Standing → Standing → Bool) (q : Quote) (price mark : ℕ)
 -- an intent that is emptied is one less with something left
 pub alive_set : (ps : List Intent) (k w : ℕ) → k < length ps → 0 < (at ps k).remaining → alive (set ps k (with_left (at ps k) w)) + (1 - min w 1) ≡ alive ps
 alive_set [] k w h some = absurd (omega arith)
-alive_set (p ∷ ps) zero w h some =
-    let was : alive (p ∷ ps) ≡ suc (alive ps) = ap length (cond-true (live p) (p ∷ filter live ps) (filter live ps) (lt-ltb 0 p.remaining some)) in
-    cond_both (ltb 0 w) (with_left p w ∷ filter live ps) (filter live ps) (λ (l : List Intent). length l + (1 - min w 1) ≡ alive (p ∷ ps))
-    (λ e. omega (arith, ltb-true 0 w e)) (λ e. omega (arith, ltb-false 0 w e))
-alive_set (p ∷ ps) (suc k) w h some = go (live p) (alive_set ps k w (omega arith) some)
-  where
-    go : (b : Bool) → alive (set ps k (with_left (at ps k) w)) + (1 - min w 1) ≡ alive ps →
-        length (cond b (p ∷ filter live (set ps k (with_left (at ps k) w))) (filter live (set ps k (with_left (at ps k) w)))) + (1 - min w 1) ≡ length (cond b (p ∷ filter live ps) (filter live ps))
-    go true ih = omega arith
-    go false ih = ih
+alive_set (p ∷ ps) zero w h some = grind (arith, nat_tests)
+alive_set (p ∷ ps) (suc k) w h some = grind (arith, nat_tests, alive_set ps k w)
 
 -- what is still to come, from where a turn stands, is what the turn gives
 pub record Underway (ahead : Standing → Standing → Bool) (q : Quote) (price mark : ℕ) (i : Incoming) (ps : List Intent) (page : List Slip) (volume : ℕ) (fs : List Fill) (left : ℕ) (ps' : List Intent) (page' : List Slip) (count : ℕ) : Type 0 where
@@ -117,7 +104,7 @@ pub record Underway (ahead : Standing → Standing → Bool) (q : Quote) (price 
 
 pub ready_live : (q : Quote) (price : ℕ) (i : Incoming) (p : Intent) → ready q price i p ≡ true → 0 < p.remaining
 unfolding ready
-ready_live q price i p h = ltb-true 0 p.remaining (and_parts (ltb 0 p.remaining) _ h).0
+ready_live q price i p h = grind (arith, nat_tests)
 
 module _ {ahead : Standing → Standing → Bool} {q : Quote} {price mark : ℕ} {i : Incoming} {ps : List Intent} {page : List Slip} {volume : ℕ} {fs : List Fill}
     {left : ℕ} {ps' : List Intent} {page' : List Slip} {count : ℕ} (u : Underway ahead q price mark i ps page volume fs left ps' page' count) where

@@ -57,6 +57,7 @@ impl<P: Priority, R: PriceRule> Book<P, R> {
     }
 
     /// A new intent: it takes the next number, has its turn, and what is left of it rests behind all others.
+    #[tactic(auto, using(law::proofs::Outcomes::after_refused, crate::proofs::Entering::enter_after))]
     pub fn enter(
         &mut self,
         table: &mut [Intent],
@@ -84,6 +85,7 @@ impl<P: Priority, R: PriceRule> Book<P, R> {
     }
 
     /// Withdraws what remains of a subscriber's resting intent, and answers how much that was.
+    #[tactic(auto, using(law::proofs::Outcomes::after_refused, crate::proofs::Cancelling::cancel_after))]
     pub fn cancel(&mut self, table: &mut [Intent], reference: &Reference) -> Result<u32, Refusal>
         ensures answer { result ≡ cancel_answer (memory self.old.ledger table.old []) reference.now.subscriber reference.now.number }
         ensures book { self.new ≡ record self.old { ledger = ledger_of (after (⟦<RuleSet<P, R> as Meaning>⟧.rules self.old.rules) (memory self.old.ledger table.old []) (cancel_call reference.now)) } }
@@ -97,6 +99,7 @@ impl<P: Priority, R: PriceRule> Book<P, R> {
     }
 
     /// An order's turn: it takes what it can from resting intents and never rests.
+    #[tactic(auto, using(law::proofs::Outcomes::after_refused, crate::proofs::Ordering::order_after))]
     pub fn order(
         &mut self,
         table: &mut [Intent],
@@ -119,6 +122,7 @@ impl<P: Priority, R: PriceRule> Book<P, R> {
     }
 
     /// The turn of a new party against the resting intents; those that it empties leave.
+    #[tactic(auto, using(crate::proofs::Matching::few_alive))]
     fn match_incoming(
         &mut self,
         table: &mut [Intent],

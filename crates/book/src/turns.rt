@@ -29,6 +29,7 @@ fn active_number(number: Option<u32>) -> u32
 }
 
 /// Whether the intent is eligible and has something left.
+#[tactic(auto, unfolding(crate::specs::InPlace::ready))]
 fn is_ready(seeker: &Seeker, intent: &Intent) -> bool
     ensures { result ≡ ready seeker.now.quote seeker.now.price seeker.now.incoming intent.now }
 {
@@ -62,6 +63,7 @@ fn foremost<P: Priority>(priority: &P, seeker: &Seeker, intents: &[Intent]) -> O
 
 /// Hands the incoming volume to the ready intents, foremost first, and writes a slip for each handing, from the page's first
 /// place on. An emptied intent keeps its place.
+#[tactic(auto, unfolding(crate::specs::InPlace::ready))]
 fn hand_out<P: Priority>(
     priority: &P,
     seeker: &Seeker,

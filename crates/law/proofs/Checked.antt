@@ -3,7 +3,6 @@ use Rattle.std.proofs.Common.{◌≡◌, true, List, [], ◌∷◌, Ok, Err, ref
 use Rattle.std.specs.List.{AllByRecursion}
 use Rattle.rules.specs.declared.refusals.Refusal.{Refusal}
 use Rattle.law.specs.Checks.{Check, checked}
-use Rattle.law.specs.Outcomes.{unless_refused}
 
 -- all tests hold of what comes out
 pub checked_passes : {A : Type 0} (cs : List Check) (x x' : A) → checked cs x ≡ Ok x' → AllByRecursion (λ (c : Check). c.0 ≡ true) cs
@@ -23,13 +22,3 @@ checked_ok cs x x' y h = passes_checked cs y (checked_passes cs x x' h)
 pub checked_err : {A B : Type 0} (cs : List Check) (x : A) (y : B) (e : Refusal) → checked cs x ≡ Err e → checked cs y ≡ Err e
 checked_err [] x y e h = cc
 checked_err (c ∷ cs) x y e h = grind (arith, checked_err cs x y e)
-
--- AFTERWARDS
-
--- what is accepted goes on
-pub unless_ok : {A B : Type 0} (cs : List Check) (z z' : B) (x y : A) → checked cs z ≡ Ok z' → unless_refused cs x y ≡ x
-unless_ok cs z z' x y h = rw (checked_ok cs z z' (tt {0}) h)
-
--- what is refused stays as it was
-pub unless_err : {A B : Type 0} (cs : List Check) (z : B) (e : Refusal) (x y : A) → checked cs z ≡ Err e → unless_refused cs x y ≡ y
-unless_err cs z e x y h = rw (checked_err cs z (tt {0}) e h)

@@ -47,8 +47,8 @@ module _ {A : Type 0} where
   filter_all t (x ∷ xs) h = grind (arith, filter_all t xs)
 
   -- no more are kept than there are
-  pub length-filter-le : (t : A → Bool) (xs : List A) → length (filter t xs) ≤ length xs
-  length-filter-le t xs = omega (arith, length-filter t xs, count_by-le-length t xs)
+  pub filter_short : (t : A → Bool) (xs : List A) → length (filter t xs) ≤ length xs
+  filter_short t xs = omega (arith, length-filter t xs, count_by-le-length t xs)
 
   -- PAIRWISE
 

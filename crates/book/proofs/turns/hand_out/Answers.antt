@@ -1,15 +1,10 @@
 use Rattle.std.proofs.Common.{arith}
-use Rattle.ledger.specs.Places.{at}
-use Rattle.book.proofs.Turning.{ready_live, underway_spent, underway_none, underway_room, underway_more}
+use Rattle.book.proofs.Turning.{underway_spent, underway_none, underway_room, underway_more}
 use Rattle.book.proofs.turns.hand_out.Goals as goal
 
 pub bounds-page-slips : goal.bounds-page-slips
 bounds-page-slips g c =
     omega (arith, underway_room c.loop-left.invariant (g.met.P.Priority.total c.args.priority.now c.args.seeker.now.incoming.subscriber) c.in-Some.i c.loop-left-test.true c.in-Some.ensures c.min-volume.result c.min-volume.ensures, c.requires.room)
-
-pub loop-left-smaller : goal.loop-left-smaller
-loop-left-smaller g c =
-    omega (arith, ready_live c.args.seeker.now.quote c.args.seeker.now.price c.args.seeker.now.incoming (at c.loop-left.intents c.in-Some.i) c.in-Some.ensures.ready_there)
 
 pub loop-left-preserved : goal.loop-left-preserved
 loop-left-preserved g c =
