@@ -10,10 +10,10 @@ pub struct Dealer {
 }
 
 impl Membership for Dealer {
-    ghost member = { λ it _ x. nat_eq x.subscriber it.dealer };
+    ghost member = { λ it _ standing. nat_eq standing.subscriber it.dealer };
 
-    fn contains(&self, _subscriber: u32, x: &Standing) -> bool {
-        x.subscriber == self.dealer
+    fn contains(&self, _subscriber: u32, standing: &Standing) -> bool {
+        standing.subscriber == self.dealer
     }
 }
 

@@ -1,5 +1,5 @@
 -- The law of one turn: what its fill slips must be, whoever made them.
-use Rattle.std.specs.Prelude.{◌≡◌, ℕ, ◌<◌, ◌≤◌, Bool, true, if◌then◌else◌, not, ◌||◌, IsTrue, IfSome, List, [], ◌∷◌, Some, None, Option, ◌==◌, ◌≢◌}
+use Rattle.std.specs.Prelude.{◌≡◌, ℕ, ◌<◌, ◌≤◌, Bool, true, if◌then◌else◌, not, ◌||◌, IsTrue, IfSome, unwrap_or, List, [], ◌∷◌, Some, None, Option, ◌==◌, ◌≢◌}
 use Rattle.std.specs.List.{filter, flat_map, AllByRecursion}
 use Rattle.rules.specs.declared.incoming.Incoming.{Incoming}
 use Rattle.rules.specs.declared.intents.Intent.{Intent}
@@ -51,8 +51,7 @@ given fs n = total (λ (f : Fill). if f.passive == n then f.volume else 0) fs
 
 -- the number that a party's fill slips carry: 0 for an order
 abbrev pub active_number : Option ℕ → ℕ
-active_number None = 0
-active_number (Some n) = n
+active_number o = unwrap_or o 0
 
 -- f belongs to one of the intents ps, at the price of the quote in force, within it and both limits
 pub record Priced (rules : Rules) (a : Account) (i : Incoming) (ps : List Intent) (f : Fill) : Type 0 where

@@ -5,7 +5,7 @@ use rules::prices::PriceRule;
 use rules::priorities::Priority;
 
 /// A priority and a price rule: all that the rules of a turn leave open.
-#[derive(Drop)]
+#[derive(Clone, Copy, Drop)]
 pub struct RuleSet<P: Priority, R: PriceRule> {
     pub priority: P,
     pub rule: R,

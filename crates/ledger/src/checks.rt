@@ -2,7 +2,7 @@
 ghost use Rattle.std.specs.Prelude.{◌≡◌, ◌<◌, ◌&&◌, [], ◌∷◌, length, take, IfOk, nat_le, slice_index_or};
 ghost use Rattle.std.specs.List.{position_or_len};
 ghost use Rattle.law.specs.Accounts.{find};
-ghost use Rattle.law.specs.Checks.{checked, is_price_if_any, is_of, enter_checks, order_checks, cancel_checks};
+ghost use Rattle.law.specs.Checks.{checked, is_price_if_any, is_of, table_check, page_check, enter_checks, order_checks, cancel_checks};
 ghost use Rattle.ledger.specs.Ledgers.{memory};
 ghost use Rattle.ledger.specs.Places.{has_number};
 ghost use Rattle.rules.specs.Minimums.{are_minimums};
@@ -76,12 +76,26 @@ impl Ledger {
         self.day <= day && Range::DAYS.contains(day)
     }
 
+    /// Checks the lent table.
+    fn check_table(&self, table: &[Intent]) -> Result<(), Refusal>
+        ensures { result ≡ checked (table_check (memory self.now table.now []) ∷ []) tt }
+    {
+        need(is_lawful(table, self.count, self.next), Refusal::Table)
+    }
+
+    /// Checks the lent table and the lent page.
+    fn check_memory(&self, table: &[Intent], page: &[Slip]) -> Result<(), Refusal>
+        ensures { result ≡ checked (table_check (memory self.now table.now page.now) ∷ (page_check (memory self.now table.now page.now) ∷ [])) tt }
+    {
+        self.check_table(table)?;
+        need(self.count <= page.len(), Refusal::Page)
+    }
+
     /// Checks the call enter.
     pub fn check_enter(&self, table: &[Intent], page: &[Slip], terms: &Terms) -> Result<(), Refusal>
         ensures { result ≡ checked (enter_checks (memory self.now table.now page.now) terms.now) tt }
     {
-        need(is_lawful(table, self.count, self.next), Refusal::Table)?;
-        need(self.count <= page.len(), Refusal::Page)?;
+        self.check_memory(table, page)?;
         need(self.is_listed(terms.security), Refusal::NotListed)?;
         need(is_party(terms.subscriber, terms.group), Refusal::Party)?;
         need(Range::VOLUMES.contains(terms.volume), Refusal::Volume)?;
@@ -95,8 +109,7 @@ impl Ledger {
     pub fn check_order(&self, table: &[Intent], page: &[Slip], order: &Order) -> Result<(), Refusal>
         ensures { result ≡ checked (order_checks (memory self.now table.now page.now) order.now) tt }
     {
-        need(is_lawful(table, self.count, self.next), Refusal::Table)?;
-        need(self.count <= page.len(), Refusal::Page)?;
+        self.check_memory(table, page)?;
         need(self.is_listed(order.security), Refusal::NotListed)?;
         need(
             Range::SUBSCRIBERS.contains(order.subscriber),
@@ -111,7 +124,7 @@ impl Ledger {
         ensures within { IfOk result (λ k. k < length table.now) }
         ensures answer { result ≡ checked (cancel_checks (memory self.now table.now []) reference.now.subscriber reference.now.number) (position_or_len (has_number reference.now.number) (take self.now.count table.now)) }
     {
-        need(is_lawful(table, self.count, self.next), Refusal::Table)?;
+        self.check_table(table)?;
         place_of(&table[0..self.count], reference)
     }
 }

@@ -6,7 +6,7 @@ use crate::intents::{Intent, Side};
 use crate::prices::PriceRule;
 use crate::quotes::Quote;
 
-/// The party that has its turn, with what it is quoted.
+/// An incoming party with the quote in force and its price.
 #[derive(Clone, Copy)]
 pub struct Seeker {
     pub incoming: Incoming,

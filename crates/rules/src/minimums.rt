@@ -13,6 +13,7 @@ pub struct Minimums {
 }
 
 impl Minimums {
+    /// An order's: they ask nothing.
     pub const NONE: Minimums = Minimums {
         spread: 0,
         volume: 0,

@@ -11,7 +11,7 @@ use Rattle.session.specs.Runs.{listing_text, after_run}
 
 abbrev closing : Result (Unit {0}) Fault → List ℕ
 closing (Ok u) = []
-closing (Err (Script cause line)) = fault_text (record { cause = cause; line = line })
+closing (Err (Script f)) = fault_text f
 closing (Err (Memory error)) = []
 
 whole : (ledger : Ledger) (reading : Reading) → outcomes ledger reading ++ closing (ending reading) ≡ listing_text ledger reading
@@ -34,6 +34,6 @@ pub finished : (reading : Reading) (before : Ledger) (text : List ℕ) (after : 
     text ≡ [] → UnlessMemory r (Played reading before text after text_after r) → Closed r text_after final → Finished reading before after final
 finished reading before text after text_after final (Ok u) empty p e =
     record { printed = e ∙ sym (append-nil text_after) ∙ closed reading before text after text_after (Ok u) empty p; stands = p.stands }
-finished reading before text after text_after final (Err (Script cause line)) empty p e =
-    record { printed = e ∙ closed reading before text after text_after (Err (Script cause line)) empty p; stands = p.stands }
+finished reading before text after text_after final (Err (Script f)) empty p e =
+    record { printed = e ∙ closed reading before text after text_after (Err (Script f)) empty p; stands = p.stands }
 finished reading before text after text_after final (Err (Memory error)) empty p e = absurd e

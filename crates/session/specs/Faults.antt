@@ -4,4 +4,4 @@ use Rattle.session.specs.declared.faults.Fault.{Fault}
 use Rattle.session.specs.declared.faults.Fault.TheVariants.{Script}
 
 abbrev pub fault_of : ReadFault → Fault
-fault_of f = Script f.cause f.line
+fault_of f = Script f

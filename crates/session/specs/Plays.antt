@@ -30,11 +30,11 @@ pub record Played (reading : Reading) (before : Ledger) (text : List ℕ) (after
 -- a run that found no memory stops somewhere
 abbrev pub UnlessMemory : Result (Unit {0}) Fault → Type 0 → Type 0
 UnlessMemory (Ok u) P = P
-UnlessMemory (Err (Script cause line)) P = P
+UnlessMemory (Err (Script f)) P = P
 UnlessMemory (Err (Memory error)) P = Unit {0}
 
 -- The fault that ended a script closes its text; want of memory leaves no listing.
 abbrev pub Closed : Result (Unit {0}) Fault → List ℕ → List ℕ → Type 0
 Closed (Ok u) text closed = closed ≡ text
-Closed (Err (Script cause line)) text closed = closed ≡ text ++ fault_text (record { cause = cause; line = line })
+Closed (Err (Script f)) text closed = closed ≡ text ++ fault_text f
 Closed (Err (Memory error)) text closed = ⊥

@@ -3,13 +3,13 @@ ghost use Rattle.session.specs.Faults.{fault_of};
 ghost use Rattle.session.specs.declared.faults.Fault.TheVariants.{Memory};
 
 use std::alloc::AllocError;
-use text::faults::{Cause, ReadFault};
+use text::faults::ReadFault;
 
 /// What ends the run of a script before its end.
 #[derive(Clone, Copy)]
 pub enum Fault {
-    /// The reader's own cause, with the line that it stands on.
-    Script { cause: Cause, line: usize },
+    /// The reader's own fault, with the line that it stands on.
+    Script(ReadFault),
     /// No memory was left for the listing.
     Memory(AllocError),
 }
@@ -18,10 +18,7 @@ impl From<ReadFault> for Fault {
     ghost from_gives = { λ f r. r ≡ fault_of f };
 
     fn from(f: ReadFault) -> Fault {
-        Fault::Script {
-            cause: f.cause,
-            line: f.line,
-        }
+        Fault::Script(f)
     }
 }
 

@@ -9,7 +9,6 @@ ghost use Rattle.text.specs.Readings.{reading};
 use crate::faults::Fault;
 use crate::sessions::Session;
 use std::alloc::{AllocError, Global};
-use text::faults::ReadFault;
 use text::listing::{write_fault, write_outcome};
 use text::reader::Reader;
 use text::reading::check_length;
@@ -43,7 +42,7 @@ fn close(listing: &mut String, ended: Result<(), Fault>) -> Result<(), AllocErro
 {
     match ended {
         Ok(()) => Ok(()),
-        Err(Fault::Script { cause, line }) => write_fault(listing, &ReadFault { cause, line }),
+        Err(Fault::Script(fault)) => write_fault(listing, &fault),
         Err(Fault::Memory(error)) => Err(error),
     }
 }

@@ -1,12 +1,12 @@
 -- The numbers that bytes write.
-use Rattle.std.specs.Prelude.{ℕ, ◌+◌, ◌-◌, ◌*◌, Bool, true, if◌then◌else◌, ◌&&◌, ◌||◌, List, [], ◌∷◌, length, Some, None, Option, ◌==◌, nat_le, nat_lt, slice_index}
+use Rattle.std.specs.Prelude.{ℕ, ◌+◌, ◌-◌, ◌*◌, Bool, if◌then◌else◌, ◌&&◌, ◌||◌, List, [], ◌∷◌, length, Some, None, Option, ◌==◌, nat_le, nat_lt, slice_index}
+use Rattle.std.specs.List.{list_all}
 
 abbrev pub digit : ℕ → Bool
 digit c = nat_le 48 c && nat_le c 57
 
 abbrev pub digits : List ℕ → Bool
-digits [] = true
-digits (c ∷ cs) = digit c && digits cs
+digits s = list_all digit s
 
 -- the value of the digits behind the number n
 abbrev pub value_on : ℕ → List ℕ → ℕ

@@ -1,7 +1,8 @@
 ghost use Rattle.std.specs.Prelude.{◌≡◌, Some};
 ghost use Rattle.std.specs.Str.{bytes_eq};
-ghost use Rattle.text.specs.Names.{spelled, named, name_of};
+ghost use Rattle.text.specs.Names.{spelled, named, known, name_of};
 
+use crate::faults::Cause;
 use rules::calls::Call;
 use std::fmt;
 
@@ -37,12 +38,17 @@ impl CallName {
     {
         bytes == self.text().as_bytes()
     }
+}
 
-    /// The name that the bytes spell, if they spell one.
-    pub(crate) fn read(bytes: &[u8]) -> Option<CallName>
-        ensures { result ≡ named bytes.now }
-    {
-        CallName::List.spells(bytes).then_some(CallName::List)
+/// Bytes that name no call are no key that is due.
+impl TryFrom<&[u8]> for CallName {
+    type Error = Cause;
+
+    ghost try_from_gives = { λ bytes r. r ≡ known (named bytes.now) };
+
+    fn try_from(bytes: &[u8]) -> Result<CallName, Cause> {
+        let name = CallName::List.spells(bytes).then_some(CallName::List);
+        name.ok_or(Cause::Key)
     }
 }
 

@@ -9,10 +9,7 @@ const LARGEST: u64 = 4_294_967_295;
 pub fn number(value: &[u8]) -> Option<u32>
     ensures { result ≡ number_of value.now }
 {
-    if value.is_empty() {
-        return None;
-    }
-    if value.len() > 1 && value[0] == b'0' {
+    if matches!(value, [] | [b'0', _, ..]) {
         return None;
     }
     let mut n: u64 = 0;
@@ -25,5 +22,5 @@ pub fn number(value: &[u8]) -> Option<u32>
             return None;
         }
     }
-    Some(n as u32)
+    u32::try_from(n).ok()
 }

@@ -67,9 +67,9 @@ impl<'a> Reader<'a> {
         ensures advanced { Advanced result self.old self.new }
     {
         let value = self.value(b"call=")?;
-        let name = CallName::read(value).ok_or(self.fault(Cause::Key))?;
-        match name {
-            CallName::List => self.list(),
+        match CallName::try_from(value) {
+            Ok(CallName::List) => self.list(),
+            Err(cause) => Err(self.fault(cause)),
         }
     }
 

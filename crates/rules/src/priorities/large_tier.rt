@@ -11,10 +11,10 @@ pub struct Large {
 }
 
 impl Membership for Large {
-    ghost member = { λ large _ x. is_large large.threshold x };
+    ghost member = { λ large _ standing. is_large large.threshold standing };
 
-    fn contains(&self, _subscriber: u32, x: &Standing) -> bool {
-        self.threshold <= x.entered
+    fn contains(&self, _subscriber: u32, standing: &Standing) -> bool {
+        self.threshold <= standing.entered
     }
 }
 

@@ -12,8 +12,8 @@ pub trait Membership {
     ghost member: { Self → ℕ → Standing → Bool };
 
     /// Whether an intent is in the tier.
-    fn contains(&self, subscriber: u32, x: &Standing) -> bool
-        ensures { result ≡ member self.now subscriber x.now };
+    fn contains(&self, subscriber: u32, standing: &Standing) -> bool
+        ensures { result ≡ member self.now subscriber standing.now };
 }
 
 /// Members go first; two of them, and two others, go as the priority below says.
