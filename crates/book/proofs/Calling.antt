@@ -1,5 +1,5 @@
 -- What the calls of the book come to, from a turn that was matched.
-use Rattle.std.proofs.Common.{arith, IsErrAnd, true, ◌≡◌, ℕ, true, List, [], ◌∷◌, map, length, take, drop, Ok, Err, Result, sym, refl, ap, ◌∙◌, subst}
+use Rattle.std.proofs.Common.{◌≡◌, ℕ, true, List, [], ◌∷◌, map, length, take, drop, Ok, Err, Result, IsErrAnd, sym, refl, ap, ◌∙◌, subst, arith}
 use Rattle.std.specs.List.{AllByRecursion}
 use Rattle.std.proofs.lemmas.List.{length-map, take_at}
 use Rattle.rules.specs.declared.incoming.Incoming.{Incoming}

@@ -1,5 +1,5 @@
 -- The call cancel: the intent that is emptied leaves.
-use Rattle.std.proofs.Common.{is_ok, Some, ◌≡◌, ℕ, zero, suc, ◌-◌, ◌<◌, ◌≤◌, true, not, eqb, List, [], ◌∷◌, ◌++◌, length, take, drop, set, replicate, Ok, sym, refl, ap, ◌∙◌, arith, drop-set-lt}
+use Rattle.std.proofs.Common.{false, is_ok, Some, ◌≡◌, ℕ, zero, suc, ◌-◌, ◌<◌, ◌≤◌, true, not, eqb, List, [], ◌∷◌, ◌++◌, length, take, drop, set, replicate, Ok, sym, refl, ap, ◌∙◌, arith, drop-set-lt}
 use Rattle.std.specs.List.{filter, AllByRecursion, position_or_len}
 use lib.Seq.{take-set-lt}
 use Rattle.std.proofs.lemmas.List.{get_or-take}
@@ -14,12 +14,11 @@ use Rattle.law.specs.Lists.{Pairwise}
 use Rattle.law.specs.Memories.{Memory, lawful_intents}
 use Rattle.law.specs.Outcomes.{cancel_answer, after}
 use Rattle.law.specs.Turns.{Rules}
-use Rattle.law.proofs.Checked.{checked_ok}
 use Rattle.law.proofs.Lawful.{table_parts, lawful_count, lawful_left, lawful_rising}
 use Rattle.law.proofs.Lessened.{left_found}
 use Rattle.law.proofs.Lists.{each_weaker, filter_all, filter_short}
 use Rattle.law.proofs.Numbers.{Apart, rising_apart}
-use Rattle.law.proofs.Outcomes.{after_accepted}
+use Rattle.law.proofs.Outcomes.{after_accepted, after_refused}
 use Rattle.ledger.specs.Places.{at, live, has_number}
 use Rattle.ledger.proofs.Scans.{found}
 use Rattle.book.proofs.Matching.{laid_out_less}
@@ -45,7 +44,11 @@ emptied_leaves n (p ∷ ps) (suc k) some apart is here = grind (arith, nat_tests
 is_there : (subscriber n : ℕ) (ps : List Intent) → is_of subscriber (find n ps) ≡ true → place_in n ps < length ps
 is_there subscriber n ps e = grind (arith, nat_tests, found n ps)
 
-module _ (m : Memory) (r : Reference) (passed : is_ok (checked {A = Unit {0}} (cancel_checks m r.subscriber r.number) tt) ≡ true) where
+-- a refused cancel leaves all as it was
+pub cancel_refused : (rules : Rules) (m : Memory) (r : Reference) → is_ok (checked (cancel_checks m r.subscriber r.number) (place_in r.number (take m.count m.table))) ≡ false → after rules m (cancel_call r) ≡ m
+cancel_refused rules m r failed = after_refused rules m (cancel_call r) (grind (arith, nat_tests))
+
+module _ (m : Memory) (r : Reference) (passed : is_ok (checked (cancel_checks m r.subscriber r.number) (place_in r.number (take m.count m.table))) ≡ true) where
   abbrev ps : List Intent
   ps = take m.count m.table
 
@@ -94,18 +97,10 @@ module _ (m : Memory) (r : Reference) (passed : is_ok (checked {A = Unit {0}} (c
       let rs : List Intent = without r.number ps in
       let closed = laid_out_less m.count m.next m.table rs tests.0 (omega (arith, filter_short (λ (p : Intent). not (eqb p.number r.number)) ps, lawful_count m.count m.next m.table tests.0)) in
       let beyond = drop-set-lt m.count m.table place (with_left (at m.table place) 0) inside in
-      after_accepted rules m (cancel_call r) passed
+      after_accepted rules m (cancel_call r) (grind (arith, nat_tests))
       ∙ sym (rw (leaves, beyond) (λ j. record m { count = length rs; table = closed j }))
 
 -- the answer is what remained in the place that the check found
 pub cancel_answered : (m : Memory) (r : Reference) (place : ℕ) → Ok place ≡ checked (cancel_checks m r.subscriber r.number) (place_in r.number (take m.count m.table)) →
     Ok (at m.table place).remaining ≡ cancel_answer m r.subscriber r.number
-cancel_answered m r place passed =
-    let cs : List Check = cancel_checks m r.subscriber r.number in
-    let k : ℕ = place_in r.number (take m.count m.table) in
-    let left : ℕ = left_of r.number (take m.count m.table) in
-    let found_place = checked_ok cs k place k (sym passed) in
-    let place_is : place ≡ k = cc in
-    ap (λ (k : ℕ). Ok (at m.table k).remaining) place_is
-    ∙ ap Ok (sym (withdrawn_is m r (ap is_ok (checked_ok cs k place (tt {0}) (sym passed)))))
-    ∙ sym (checked_ok cs k place left (sym passed))
+cancel_answered m r place passed = grind (arith, nat_tests, withdrawn_is m r (sym (ap is_ok passed)))

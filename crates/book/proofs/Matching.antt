@@ -86,11 +86,7 @@ laid_out_less count next table rs lawful short =
     ∙ drop_at (take count table) (replicate (room - length (take count table)) blank_intent ++ beyond) count many
     ∙ ap (λ (n : ℕ). replicate (room - n) blank_intent ++ beyond) many in
     let whole : count - length rs + (room - count) ≡ room - length rs = omega arith in
-    ap (λ (l : List Intent). rs ++ (replicate (count - length rs) blank_intent ++ l)) behind
-    ∙ ap (λ (l : List Intent). rs ++ l)
-    (sym (append_assoc (replicate (count - length rs) blank_intent) (replicate (room - count) blank_intent) beyond)
-    ∙ ap (λ (l : List Intent). l ++ beyond) (replicate-append-replicate (count - length rs) (room - count) blank_intent)
-    ∙ ap (λ (n : ℕ). replicate n blank_intent ++ beyond) whole)
+    cc (append_assoc (replicate (count - length rs) blank_intent) (replicate (room - count) blank_intent) beyond, replicate-append-replicate (count - length rs) (room - count) blank_intent)
 
 -- among the first places no more are alive than there are places
 pub few_alive : (count : ℕ) (table : List Intent) → alive (take count table) ≤ count
@@ -139,13 +135,9 @@ module _ (rules : Rules) (m : Memory) (i : Incoming) (lawful : lawful_table m.co
       let left : filter live (take m.count table) ≡ rs = ap (filter live) handed.table ∙ ap (λ (gs : List Fill). filter live (map (relieved gs) ps)) same_fills ∙ closed_lessen fs ps passive_only in
       let many = lawful_count m.count m.next m.table lawful in
       let count_is : count' ≡ length rs = counted ∙ ap length left in
-      let table_is : table' ≡ laid_out rs m.table =
-      closed ∙ ap (λ (l : List Intent). l ++ (replicate (m.count - count') blank_intent ++ drop m.count table)) left
-      ∙ ap (λ (n : ℕ). rs ++ (replicate (m.count - n) blank_intent ++ drop m.count table)) count_is
-      ∙ ap (λ (l : List Intent). rs ++ (replicate (m.count - length rs) blank_intent ++ l)) beyond
-      ∙ laid_out_less m.count m.next m.table rs lawful (omega (arith, lessen_short fs ps)) in
+      let table_is : table' ≡ laid_out rs m.table = cc (laid_out_less m.count m.next m.table rs lawful (omega (arith, lessen_short fs ps))) in
       let few : length fs ≤ length m.page = omega (arith, handed.few, handed.counted, ap length same_fills, filter_short live ps) in
-      let page_is : page' ≡ written (map Filled fs) m.page = handed.pages ∙ ap (written_from m.page 0) same_fills ∙ written_whole m.page fs few in
+      let page_is : page' ≡ written (map Filled fs) m.page = cc (same_fills, written_whole m.page fs few) in
       record {
         slips = handed.counted ∙ ap length same_fills;
         left = handed.rest ∙ ap (λ (gs : List Fill). i.volume - volume_of gs) same_fills;

@@ -1,6 +1,5 @@
 -- One handing of a turn, over the table in place.
-use Rattle.std.proofs.Common.{◌≡◌, ℕ, zero, suc, ◌+◌, ◌-◌, ◌<◌, ◌≤◌, min, Bool, true, false, ltb, List, [], ◌∷◌, map, length, set, sym, refl, ap, ◌∙◌, ⊎_elim, arith}
-use Rattle.std.proofs.lemmas.Bool.{cond-true, cases_lt, lt-ltb}
+use Rattle.std.proofs.Common.{◌≡◌, ℕ, zero, suc, ◌+◌, ◌-◌, ◌<◌, ◌≤◌, min, Bool, true, false, List, [], ◌∷◌, map, length, set, sym, refl, ap, ◌∙◌, arith}
 use Rattle.std.proofs.lemmas.Bool.Decides.{nat_tests}
 use Rattle.std.proofs.lemmas.Grind.{common_steps}
 use Rattle.std.proofs.lemmas.List.{length-map, length-set, get_or-map, get_or-set_same, get_or-set_other, ext_get_or}
@@ -76,15 +75,13 @@ module _ (ahead : Standing → Standing → Bool) (q : Quote) (price mark : ℕ)
       let p : Intent = at ps k in
       let v : ℕ = min p.remaining left in
       let rest : List Intent = queue ahead (filter (ready q price i) (set ps k (with_left p 0))) in
-      ap (λ (l : List Intent). serve (active_number i.number) price mark left l) (queue_head ahead sided (ready q price i) (emptied q price i) ps k best.within best.ready_there d best.best)
-      ∙ cond-true (ltb 0 left) (slip p v ∷ serve (active_number i.number) price mark (left - v) rest) [] (lt-ltb 0 left some)
-      ∙ ap (λ (l : List Fill). slip p v ∷ l)
-      (⊎_elim
-      (λ (more : 0 < left - v).
-      let none : 0 ≡ p.remaining - v = omega arith in
-      ap (λ (w : ℕ). turn_of ahead q price mark i (left - v) (set ps k (with_left p w))) none)
-      (λ (spent : left - v ≤ 0). serve_spent (active_number i.number) price mark (left - v) (omega arith) rest ∙ sym (turn_spent (left - v) (set ps k (less p v)) (omega arith)))
-      (cases_lt 0 (left - v)))
+      grind (
+        arith,
+        nat_tests,
+        queue_head ahead sided (ready q price i) (emptied q price i) ps k best.within best.ready_there d best.best,
+        serve_spent (active_number i.number) price mark 0 refl rest,
+        turn_spent 0 (set ps k (less p v)) refl,
+      )
 
 -- an intent that is emptied is one less with something left
 pub alive_set : (ps : List Intent) (k w : ℕ) → k < length ps → 0 < (at ps k).remaining → alive (set ps k (with_left (at ps k) w)) + (1 - min w 1) ≡ alive ps

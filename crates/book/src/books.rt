@@ -85,7 +85,7 @@ impl<P: Priority, R: PriceRule> Book<P, R> {
     }
 
     /// Withdraws what remains of a subscriber's resting intent, and answers how much that was.
-    #[tactic(auto, using(law::proofs::Outcomes::after_refused, crate::proofs::Cancelling::cancel_after))]
+    #[tactic(auto, using(crate::proofs::Cancelling::cancel_refused, crate::proofs::Cancelling::cancel_after))]
     pub fn cancel(&mut self, table: &mut [Intent], reference: &Reference) -> Result<u32, Refusal>
         ensures answer { result ≡ cancel_answer (memory self.old.ledger table.old []) reference.now.subscriber reference.now.number }
         ensures book { self.new ≡ record self.old { ledger = ledger_of (after (⟦<RuleSet<P, R> as Meaning>⟧.rules self.old.rules) (memory self.old.ledger table.old []) (cancel_call reference.now)) } }
