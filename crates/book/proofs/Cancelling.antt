@@ -1,5 +1,5 @@
 -- The call cancel: the intent that is emptied leaves.
-use Rattle.std.proofs.Common.{false, is_ok, Some, ◌≡◌, ℕ, zero, suc, ◌-◌, ◌<◌, ◌≤◌, true, not, eqb, List, [], ◌∷◌, ◌++◌, length, take, drop, set, replicate, Ok, sym, refl, ap, ◌∙◌, arith, drop-set-lt}
+use Rattle.std.proofs.Common.{◌≡◌, ℕ, zero, suc, ◌-◌, ◌<◌, ◌≤◌, true, false, not, eqb, List, [], ◌∷◌, ◌++◌, length, take, drop, set, replicate, Some, Ok, is_ok, sym, refl, ap, ◌∙◌, arith, drop-set-lt}
 use Rattle.std.specs.List.{filter, AllByRecursion, position_or_len}
 use lib.Seq.{take-set-lt}
 use Rattle.std.proofs.lemmas.List.{get_or-take}

@@ -1,5 +1,5 @@
 -- The call enter: its turn, and what is left of it behind the others.
-use Rattle.std.proofs.Common.{is_ok, ◌≤◌, ◌≡◌, ℕ, suc, ◌+◌, ◌-◌, ◌<◌, Bool, true, false, cond, ltb, List, [], ◌∷◌, ◌++◌, length, take, drop, set, replicate, Some, None, Ok, Option, sym, refl, ap, ◌∙◌, append_assoc, arith}
+use Rattle.std.proofs.Common.{◌≡◌, ℕ, suc, ◌+◌, ◌-◌, ◌<◌, ◌≤◌, Bool, true, false, cond, ltb, List, [], ◌∷◌, ◌++◌, length, take, drop, set, replicate, Some, None, Ok, is_ok, Option, sym, refl, ap, ◌∙◌, append_assoc, arith}
 use Rattle.std.specs.List.{AllByRecursion}
 use lib.Seq.{set_at}
 use Rattle.std.proofs.lemmas.List.{append-nil, length_push}
@@ -46,10 +46,8 @@ rest_table true rs x table room =
     let beyond : List Intent = drop (capacity table) table in
     let more : capacity table - length rs ≡ suc (capacity table - length (rs ++ (x ∷ []))) = omega (arith, length_push rs x) in
     let rest : List Intent = replicate (capacity table - length (rs ++ (x ∷ []))) blank_intent ++ beyond in
-    ap (λ (k : ℕ). set (rs ++ (replicate k blank_intent ++ beyond)) (length rs) x) more
-    ∙ set_at rs blank_intent rest x (length rs) refl
-    ∙ sym (append_assoc rs (x ∷ []) rest)
-rest_table false rs x table room = ap (λ (l : List Intent). laid_out l table) (sym (append-nil rs))
+    rw more (set_at rs blank_intent rest x (length rs) refl ∙ sym (append_assoc rs (x ∷ []) rest))
+rest_table false rs x table room = rw append-nil
 
 -- what the checks of enter say of the memory
 pub record Open (m : Memory) : Type 0 where

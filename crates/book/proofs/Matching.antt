@@ -81,10 +81,9 @@ laid_out_less count next table rs lawful short =
     let fits : count ≤ room = (table_parts count next table lawful).fits in
     let many = lawful_count count next table lawful in
     let beyond : List Intent = drop room table in
+    let layout = lawful_layout count next table lawful in
     let behind : drop count table ≡ replicate (room - count) blank_intent ++ beyond =
-    ap (drop count) (lawful_layout count next table lawful)
-    ∙ drop_at (take count table) (replicate (room - length (take count table)) blank_intent ++ beyond) count many
-    ∙ ap (λ (n : ℕ). replicate (room - n) blank_intent ++ beyond) many in
+    cc (drop_at (take count table) (replicate (room - length (take count table)) blank_intent ++ beyond) count many) in
     let whole : count - length rs + (room - count) ≡ room - length rs = omega arith in
     cc (append_assoc (replicate (count - length rs) blank_intent) (replicate (room - count) blank_intent) beyond, replicate-append-replicate (count - length rs) (room - count) blank_intent)
 
@@ -101,9 +100,7 @@ lawful_distinct count next table lawful j k x y other e = ⊎_elim (λ l. apart 
         let ps : List Intent = take count table in
         let many : length ps ≡ count = lawful_count count next table lawful in
         let up : (at ps j).number < (at ps k).number = places_from_pairwise blank_intent (λ (p q : Intent). p.number < q.number) ps (lawful_rising 0 next ps (table_parts count next table lawful).intents) j k l (omega arith) in
-        let one = ap (λ (p : Intent). p.number) (get_or-take count table j blank_intent (omega arith)) in
-        let two = ap (λ (p : Intent). p.number) (get_or-take count table k blank_intent y) in
-        omega arith
+        grind (arith, get_or-take count table j blank_intent, get_or-take count table k blank_intent)
 
 -- THE WHOLE
 

@@ -1,5 +1,5 @@
 -- The call order, from its turn.
-use Rattle.std.proofs.Common.{is_ok, ◌≡◌, sym, ap}
+use Rattle.std.proofs.Common.{◌≡◌, is_ok, sym, ap}
 use Rattle.rules.specs.declared.orders.Order.{Order}
 use Rattle.rules.specs.Incoming.{order_incoming}
 use Rattle.law.specs.declared.calls.Call.TheVariants.{Order as order_call}

@@ -1,6 +1,6 @@
 -- Who is eligible: a part of those that rest, within both limits.
 -- The quote in force is a lawful one.
-use Rattle.std.proofs.Common.{◌≡◌, ℕ, Bool, arith, ◌&&◌, IsTrue, List, [], Some, None, Option, refl}
+use Rattle.std.proofs.Common.{◌≡◌, ℕ, Bool, ◌&&◌, IsTrue, List, [], Some, None, Option, refl, arith}
 use Rattle.std.proofs.lemmas.Bool.{cond_both}
 use Rattle.std.specs.List.{filter, AllByRecursion}
 use Rattle.std.proofs.lemmas.Bool.Decides.{nat_tests}

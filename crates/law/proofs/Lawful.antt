@@ -1,5 +1,5 @@
 -- A LAWFUL TABLE holds a sound account, and its places from `count` to the capacity are blank.
-use Rattle.std.proofs.Common.{◌≡◌, ℕ, ◌-◌, ◌<◌, ◌≤◌, true, List, [], ◌∷◌, ◌++◌, length, take, drop, replicate, sym, refl, ap, ◌∙◌, ap₂, append_assoc, arith}
+use Rattle.std.proofs.Common.{◌≡◌, ℕ, ◌-◌, ◌<◌, ◌≤◌, true, List, [], ◌∷◌, length, take, drop, replicate, refl, append_assoc, arith}
 use Rattle.std.proofs.lemmas.List.{length-take, length-drop, length-take-le, take-append-drop, take-take}
 use Rattle.std.proofs.lemmas.Bool.Decides.{nat_tests}
 use Rattle.std.specs.List.{list_all, AllByRecursion}
@@ -27,7 +27,7 @@ lawful_first last next p ps h = grind (arith, nat_tests)
 -- every intent is in range
 pub lawful_ranges : (last next : ℕ) (ps : List Intent) → lawful_intents last next ps ≡ true → AllByRecursion (λ (p : Intent). in_range p ≡ true) ps
 lawful_ranges last next [] h = tt
-lawful_ranges last next (p ∷ ps) h = let first = lawful_first last next p ps h in (first.range, lawful_ranges p.number next ps first.others)
+lawful_ranges last next (p ∷ ps) h = grind (arith, nat_tests, lawful_ranges p.number next ps)
 
 -- every number is above the last one before, and below the next one to be given
 pub lawful_numbers : (last next : ℕ) (ps : List Intent) → lawful_intents last next ps ≡ true → AllByRecursion (λ (p : Intent). (last < p.number) × (p.number < next)) ps
@@ -84,10 +84,9 @@ lawful_layout count next table h =
     let room : ℕ = capacity table in
     let inside : List Intent = take room table in
     let fits : count ≤ room = parts.fits in
-    let many : length (drop count inside) ≡ room - length (take count table) = length-drop count inside ∙ omega (arith, length-take room table, lawful_count count next table h) in
-    let blanks : drop count inside ≡ replicate (room - length (take count table)) blank_intent = blanks_are (drop count inside) parts.blanks ∙ ap (λ (n : ℕ). replicate n blank_intent) many in
-    let front : inside ≡ take count table ++ replicate (room - length (take count table)) blank_intent = sym (take-append-drop count inside) ∙ ap₂ ◌++◌ (take-take count room table fits) blanks in
-    sym (take-append-drop room table) ∙ ap (λ (ps : List Intent). ps ++ drop room table) front ∙ append_assoc (take count table) _ (drop room table)
+    let many : length (drop count inside) ≡ room - length (take count table) = omega (arith, length-drop count inside, length-take room table, lawful_count count next table h) in
+    let front : take count inside ≡ take count table = take-take count room table fits in
+    cc (blanks_are (drop count inside) parts.blanks, take-append-drop count inside, take-append-drop room table, append_assoc (take count table) (replicate (room - length (take count table)) blank_intent) (drop room table))
 
 -- THE ACCOUNT
 

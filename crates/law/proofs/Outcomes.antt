@@ -1,5 +1,5 @@
 -- A call that its checks accept or refuse, and what it then leaves behind.
-use Rattle.std.proofs.Common.{true, false, is_ok, ◌≡◌}
+use Rattle.std.proofs.Common.{◌≡◌, true, false, is_ok}
 use Rattle.law.specs.declared.calls.Call.{Call}
 use Rattle.law.specs.Checks.{checked, checks}
 use Rattle.law.specs.Memories.{Memory}
