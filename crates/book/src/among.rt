@@ -18,7 +18,7 @@ use rules::slips::Slip;
 
 /// The turn of an incoming party against the first `count` intents.
 pub(crate) fn turn_among<P: Priority, R: PriceRule>(
-    rules: &RuleSet<P, R>,
+    rule_set: &RuleSet<P, R>,
     quote: Option<Quote>,
     incoming: &Incoming,
     table: &mut [Intent],
@@ -28,10 +28,10 @@ pub(crate) fn turn_among<P: Priority, R: PriceRule>(
     requires within { count ≤ length table.old }
     requires apart { Distinct table.old count }
     requires room { alive (take count table.old) ≤ length page.old }
-    ensures handed { Handed (turn_under (⟦<RuleSet<P, R> as Meaning>⟧.rules rules.now) quote incoming.now (take count table.old)) incoming.now.volume (take count table.old) (take count table.new) page.old page.new result }
+    ensures handed { Handed (turn_under (⟦<RuleSet<P, R> as Meaning>⟧.rules rule_set.now) quote incoming.now (take count table.old)) incoming.now.volume (take count table.old) (take count table.new) page.old page.new result }
     ensures beyond { drop count table.new ≡ drop count table.old }
 {
-    turn(rules, quote, incoming, &mut table[0..count], page)
+    turn(rule_set, quote, incoming, &mut table[0..count], page)
 }
 
 /// Closes up the first `count` places, and answers how many intents have something left.

@@ -28,22 +28,22 @@ use rules::slips::Slip;
 mod tests;
 
 /// A book that matches by a priority and a price rule.
-#[derive(Drop)]
+#[derive(Clone, Copy, Drop)]
 pub struct Book<P: Priority, R: PriceRule> {
-    rules: RuleSet<P, R>,
+    rule_set: RuleSet<P, R>,
     ledger: Ledger,
 }
 
 impl<P: Priority, R: PriceRule> Book<P, R> {
     /// A new book over a lent table, whose places it blanks up to its capacity.
     pub fn open(priority: P, rule: R, table: &mut [Intent]) -> Book<P, R>
-        ensures book { result ≡ record { rules = record { priority = priority; rule = rule }; ledger = new_ledger } }
+        ensures book { result ≡ record { rule_set = record { priority = priority; rule = rule }; ledger = new_ledger } }
         ensures table { table.new ≡ laid_out [] table.old }
     {
         let capacity = capacity_of(table);
         blank(&mut table[0..capacity]);
         Book {
-            rules: RuleSet { priority, rule },
+            rule_set: RuleSet { priority, rule },
             ledger: Ledger::open(),
         }
     }
@@ -64,12 +64,12 @@ impl<P: Priority, R: PriceRule> Book<P, R> {
         page: &mut [Slip],
         terms: &Terms,
     ) -> Result<Entered, Refusal>
-        ensures answer { result ≡ enter_answer (⟦<RuleSet<P, R> as Meaning>⟧.rules self.old.rules) (memory self.old.ledger table.old page.old) terms.now }
-        ensures book { self.new ≡ record self.old { ledger = ledger_of (after (⟦<RuleSet<P, R> as Meaning>⟧.rules self.old.rules) (memory self.old.ledger table.old page.old) (enter_call terms.now)) } }
-        ensures table { table.new ≡ (after (⟦<RuleSet<P, R> as Meaning>⟧.rules self.old.rules) (memory self.old.ledger table.old page.old) (enter_call terms.now)).table }
-        ensures page { page.new ≡ (after (⟦<RuleSet<P, R> as Meaning>⟧.rules self.old.rules) (memory self.old.ledger table.old page.old) (enter_call terms.now)).page }
+        ensures answer { result ≡ enter_answer (⟦<RuleSet<P, R> as Meaning>⟧.rules self.old.rule_set) (memory self.old.ledger table.old page.old) terms.now }
+        ensures book { self.new ≡ record self.old { ledger = ledger_of (after (⟦<RuleSet<P, R> as Meaning>⟧.rules self.old.rule_set) (memory self.old.ledger table.old page.old) (enter_call terms.now)) } }
+        ensures table { table.new ≡ (after (⟦<RuleSet<P, R> as Meaning>⟧.rules self.old.rule_set) (memory self.old.ledger table.old page.old) (enter_call terms.now)).table }
+        ensures page { page.new ≡ (after (⟦<RuleSet<P, R> as Meaning>⟧.rules self.old.rule_set) (memory self.old.ledger table.old page.old) (enter_call terms.now)).page }
         ensures fits { IfOk result (λ x. x.slips ≤ length page.old) }
-        ensures turn { IfOk result (λ x. LawfulQuotes self.old.ledger.securities → OnlyTurn (⟦<RuleSet<P, R> as Meaning>⟧.rules self.old.rules) (account (memory self.old.ledger table.old page.old)) (intent_incoming (new_intent self.old.ledger.next terms.now)) (fills (take x.slips page.new))) }
+        ensures turn { IfOk result (λ x. LawfulQuotes self.old.ledger.securities → OnlyTurn (⟦<RuleSet<P, R> as Meaning>⟧.rules self.old.rule_set) (account (memory self.old.ledger table.old page.old)) (intent_incoming (new_intent self.old.ledger.next terms.now)) (fills (take x.slips page.new))) }
     {
         self.ledger.check_enter(table, page, terms)?;
         let number = self.ledger.next;
@@ -88,8 +88,8 @@ impl<P: Priority, R: PriceRule> Book<P, R> {
     #[tactic(auto, using(crate::proofs::Cancelling::cancel_refused, crate::proofs::Cancelling::cancel_after))]
     pub fn cancel(&mut self, table: &mut [Intent], reference: &Reference) -> Result<u32, Refusal>
         ensures answer { result ≡ cancel_answer (memory self.old.ledger table.old []) reference.now.subscriber reference.now.number }
-        ensures book { self.new ≡ record self.old { ledger = ledger_of (after (⟦<RuleSet<P, R> as Meaning>⟧.rules self.old.rules) (memory self.old.ledger table.old []) (cancel_call reference.now)) } }
-        ensures table { table.new ≡ (after (⟦<RuleSet<P, R> as Meaning>⟧.rules self.old.rules) (memory self.old.ledger table.old []) (cancel_call reference.now)).table }
+        ensures book { self.new ≡ record self.old { ledger = ledger_of (after (⟦<RuleSet<P, R> as Meaning>⟧.rules self.old.rule_set) (memory self.old.ledger table.old []) (cancel_call reference.now)) } }
+        ensures table { table.new ≡ (after (⟦<RuleSet<P, R> as Meaning>⟧.rules self.old.rule_set) (memory self.old.ledger table.old []) (cancel_call reference.now)).table }
     {
         let place = self.ledger.check_cancel(table, reference)?;
         let withdrawn = table[place].remaining;
@@ -106,12 +106,12 @@ impl<P: Priority, R: PriceRule> Book<P, R> {
         page: &mut [Slip],
         order: &Order,
     ) -> Result<Ordered, Refusal>
-        ensures answer { result ≡ order_answer (⟦<RuleSet<P, R> as Meaning>⟧.rules self.old.rules) (memory self.old.ledger table.old page.old) order.now }
-        ensures book { self.new ≡ record self.old { ledger = ledger_of (after (⟦<RuleSet<P, R> as Meaning>⟧.rules self.old.rules) (memory self.old.ledger table.old page.old) (order_call order.now)) } }
-        ensures table { table.new ≡ (after (⟦<RuleSet<P, R> as Meaning>⟧.rules self.old.rules) (memory self.old.ledger table.old page.old) (order_call order.now)).table }
-        ensures page { page.new ≡ (after (⟦<RuleSet<P, R> as Meaning>⟧.rules self.old.rules) (memory self.old.ledger table.old page.old) (order_call order.now)).page }
+        ensures answer { result ≡ order_answer (⟦<RuleSet<P, R> as Meaning>⟧.rules self.old.rule_set) (memory self.old.ledger table.old page.old) order.now }
+        ensures book { self.new ≡ record self.old { ledger = ledger_of (after (⟦<RuleSet<P, R> as Meaning>⟧.rules self.old.rule_set) (memory self.old.ledger table.old page.old) (order_call order.now)) } }
+        ensures table { table.new ≡ (after (⟦<RuleSet<P, R> as Meaning>⟧.rules self.old.rule_set) (memory self.old.ledger table.old page.old) (order_call order.now)).table }
+        ensures page { page.new ≡ (after (⟦<RuleSet<P, R> as Meaning>⟧.rules self.old.rule_set) (memory self.old.ledger table.old page.old) (order_call order.now)).page }
         ensures fits { IfOk result (λ x. x.slips ≤ length page.old) }
-        ensures turn { IfOk result (λ x. LawfulQuotes self.old.ledger.securities → OnlyTurn (⟦<RuleSet<P, R> as Meaning>⟧.rules self.old.rules) (account (memory self.old.ledger table.old page.old)) (order_incoming order.now) (fills (take x.slips page.new))) }
+        ensures turn { IfOk result (λ x. LawfulQuotes self.old.ledger.securities → OnlyTurn (⟦<RuleSet<P, R> as Meaning>⟧.rules self.old.rule_set) (account (memory self.old.ledger table.old page.old)) (order_incoming order.now) (fills (take x.slips page.new))) }
     {
         self.ledger.check_order(table, page, order)?;
         let turned = self.match_incoming(table, page, &Incoming::from(order));
@@ -132,12 +132,12 @@ impl<P: Priority, R: PriceRule> Book<P, R> {
         requires lawful { lawful_table self.old.ledger.count self.old.ledger.next table.old ≡ true }
         requires room { self.old.ledger.count ≤ length page.old }
         requires new { ComesNew incoming.now.number self.old.ledger.next }
-        ensures matched { Matched (⟦<RuleSet<P, R> as Meaning>⟧.rules self.old.rules) incoming.now (memory self.old.ledger table.old page.old) (memory self.new.ledger table.new page.new) result }
-        ensures rules { self.new.rules ≡ self.old.rules }
+        ensures matched { Matched (⟦<RuleSet<P, R> as Meaning>⟧.rules self.old.rule_set) incoming.now (memory self.old.ledger table.old page.old) (memory self.new.ledger table.new page.new) result }
+        ensures rule_set { self.new.rule_set ≡ self.old.rule_set }
     {
         let quote = self.ledger.quote_in_force(incoming.security);
         let count = self.ledger.count;
-        let turned = turn_among(&self.rules, quote, incoming, table, count, page);
+        let turned = turn_among(&self.rule_set, quote, incoming, table, count, page);
         self.ledger.count = close_among(table, count);
         turned
     }

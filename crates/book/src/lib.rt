@@ -1,4 +1,4 @@
-//! The book: what it keeps of 64 securities, and the calls on it.
+//! The book: a ledger of 64 securities with the rules that it is kept by, and the calls on it.
 #![tactic(auto)]
 
 mod among;
@@ -6,3 +6,4 @@ pub mod books;
 mod turns;
 
 pub use books::Book;
+pub use ledger::ledgers::SECURITIES;

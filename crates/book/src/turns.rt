@@ -99,7 +99,7 @@ fn hand_out<P: Priority>(
 
 /// The turn of an incoming party under the quote in force. Where there is none, nobody is eligible.
 pub(crate) fn turn<P: Priority, R: PriceRule>(
-    rules: &RuleSet<P, R>,
+    rule_set: &RuleSet<P, R>,
     quote: Option<Quote>,
     incoming: &Incoming,
     intents: &mut [Intent],
@@ -107,12 +107,12 @@ pub(crate) fn turn<P: Priority, R: PriceRule>(
 ) -> Turned
     requires apart { Distinct intents.old (length intents.old) }
     requires room { alive intents.old ≤ length page.old }
-    ensures { Handed (turn_under (⟦<RuleSet<P, R> as Meaning>⟧.rules rules.now) quote incoming.now intents.old) incoming.now.volume intents.old intents.new page.old page.new result }
+    ensures { Handed (turn_under (⟦<RuleSet<P, R> as Meaning>⟧.rules rule_set.now) quote incoming.now intents.old) incoming.now.volume intents.old intents.new page.old page.new result }
 {
     match quote {
         Some(quote) => {
-            let seeker = Seeker::new(&rules.rule, quote, *incoming);
-            hand_out(&rules.priority, &seeker, R::MARK, intents, page)
+            let seeker = Seeker::new(&rule_set.rule, quote, *incoming);
+            hand_out(&rule_set.priority, &seeker, R::MARK, intents, page)
         }
         None => Turned {
             slips: 0,

@@ -1,5 +1,5 @@
 -- The law of one turn: what its fill slips must be, whoever made them.
-use Rattle.std.specs.Prelude.{◌≡◌, ℕ, ◌<◌, ◌≤◌, Bool, true, if◌then◌else◌, not, ◌||◌, IsTrue, IfSome, unwrap_or, List, [], ◌∷◌, Some, None, Option, ◌==◌, ◌≢◌}
+use Rattle.std.specs.Prelude.{◌≡◌, ℕ, ◌<◌, ◌≤◌, Bool, true, if◌then◌else◌, not, ◌||◌, IsTrue, IfSome, unwrap_or, List, [], ◌∷◌, Some, Option, ◌==◌, ◌≢◌}
 use Rattle.std.specs.List.{filter, flat_map, AllByRecursion}
 use Rattle.rules.specs.declared.incoming.Incoming.{Incoming}
 use Rattle.rules.specs.declared.intents.Intent.{Intent}

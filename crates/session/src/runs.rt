@@ -27,8 +27,8 @@ pub struct Transcript {
 pub fn run_script(heap: Global, script: &[u8]) -> Result<Transcript, AllocError>
     ensures listing { IfOk result (λ t. string_bytes t.listing ≡ listing_text new_ledger (reading script.now)) }
     ensures book { IfOk result (λ t. t.session.book.ledger ≡ after_run new_ledger (reading script.now)) }
-    ensures priority { IfOk result (λ t. t.session.book.rules.priority.below.members.threshold ≡ 5000) }
-    ensures rule { IfOk result (λ t. t.session.book.rules.rule.ticks ≡ 1) }
+    ensures priority { IfOk result (λ t. t.session.book.rule_set.priority.below.members.threshold ≡ 5000) }
+    ensures rule { IfOk result (λ t. t.session.book.rule_set.rule.ticks ≡ 1) }
     ensures table { IfOk result (λ t. t.session.table.items ≡ replicate 256 blank_intent) }
     ensures page { IfOk result (λ t. t.session.page.items ≡ replicate 256 blank_slip) }
 {

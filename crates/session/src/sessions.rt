@@ -25,8 +25,8 @@ impl Session {
     /// A new book, with a table and a page of that many places.
     pub fn open(heap: Global, places: usize) -> Result<Session, AllocError>
         ensures book { IfOk result (λ s. s.book.ledger ≡ new_ledger) }
-        ensures priority { IfOk result (λ s. s.book.rules.priority.below.members.threshold ≡ 5000) }
-        ensures rule { IfOk result (λ s. s.book.rules.rule.ticks ≡ 1) }
+        ensures priority { IfOk result (λ s. s.book.rule_set.priority.below.members.threshold ≡ 5000) }
+        ensures rule { IfOk result (λ s. s.book.rule_set.rule.ticks ≡ 1) }
         ensures table { IfOk result (λ s. s.table.items ≡ replicate places blank_intent) }
         ensures page { IfOk result (λ s. s.page.items ≡ replicate places blank_slip) }
     {

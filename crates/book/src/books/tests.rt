@@ -67,19 +67,17 @@ fn market_buy(subscriber: u32, volume: u32, jitney: bool) -> Order {
     }
 }
 
-/// Enters the five sells, and says whether all were accepted.
+/// Enters the five sells.
 fn enter_sells<P: Priority>(
     book: &mut Book<P, StepRule>,
     table: &mut [Intent],
     page: &mut [Slip],
-) -> bool {
+) -> Result<(), Refusal> {
     for (subscriber, group, volume) in SELLS {
         let sell = terms(subscriber, group, Side::Sell, volume, 1000);
-        if book.enter(table, page, &sell).is_err() {
-            return false;
-        }
+        book.enter(table, page, &sell)?;
     }
-    true
+    Ok(())
 }
 
 /// The slip of a fill by the step rule.
@@ -98,7 +96,7 @@ fn house_then_large_then_time(rt: HostRuntime) -> Result<(), Fail> {
     let mut table = [Intent::BLANK; 8];
     let mut page = [Slip::BLANK; 8];
     let mut book = ready(rule_4_108(), &mut table);
-    assert!(rt; enter_sells(&mut book, &mut table, &mut page));
+    assert!(rt; enter_sells(&mut book, &mut table, &mut page).is_ok());
     let first = book
         .order(&mut table, &mut page, &market_buy(7, 9_000, false))
         .map_err(|_| Fail::new("refused"))?;
@@ -126,7 +124,7 @@ fn by_time_alone(rt: HostRuntime) -> Result<(), Fail> {
     let mut table = [Intent::BLANK; 8];
     let mut page = [Slip::BLANK; 8];
     let mut book = ready(Time, &mut table);
-    assert!(rt; enter_sells(&mut book, &mut table, &mut page));
+    assert!(rt; enter_sells(&mut book, &mut table, &mut page).is_ok());
     let ordered = book
         .order(&mut table, &mut page, &market_buy(7, 9_000, false))
         .map_err(|_| Fail::new("refused"))?;
@@ -166,7 +164,7 @@ fn who_came_first_decides_the_price(rt: HostRuntime) -> Result<(), Fail> {
 
 /// The number of a refusal.
 fn refused<T: Drop>(outcome: Result<T, Refusal>) -> Option<u32> {
-    outcome.err().map(|refusal| u32::from(refusal))
+    outcome.err().map(u32::from)
 }
 
 #[test]
@@ -203,7 +201,7 @@ fn a_jitney_order_meets_nobody(rt: HostRuntime) -> Result<(), Fail> {
     let mut table = [Intent::BLANK; 8];
     let mut page = [Slip::BLANK; 8];
     let mut book = ready(rule_4_108(), &mut table);
-    assert!(rt; enter_sells(&mut book, &mut table, &mut page));
+    assert!(rt; enter_sells(&mut book, &mut table, &mut page).is_ok());
     let ordered = book
         .order(&mut table, &mut page, &market_buy(7, 9_000, true))
         .map_err(|_| Fail::new("refused"))?;

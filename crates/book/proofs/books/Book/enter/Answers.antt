@@ -23,7 +23,7 @@ returns-clause-answer g c =
 
 pub returns-clause-turn : goal.returns-clause-turn
 returns-clause-turn g c =
-    let set = c.args.self.now.rules in
+    let set = c.args.self.now.rule_set in
     turned_by_law (record { total = g.met.P.Priority.total set.priority; transitive = g.met.P.Priority.transitive set.priority; between = g.met.R.PriceRule.between set.rule })
     (rw (c.from.ensures, c.intent-intent.ensures) at c.match_incoming-turned.ensures.matched)
     (open_by (memory c.args.self.now.ledger c.args.table.now c.args.page.now) c.args.terms.now c.in_ok-check_enter.ensures).lawful

@@ -11,5 +11,5 @@ returns-in_err-check_order-clause-answer g c =
 
 pub returns-clause-turn : goal.returns-clause-turn
 returns-clause-turn g c =
-    turned_by_law (record { total = g.met.P.Priority.total c.args.self.now.rules.priority; transitive = g.met.P.Priority.transitive c.args.self.now.rules.priority; between = g.met.R.PriceRule.between c.args.self.now.rules.rule })
+    turned_by_law (record { total = g.met.P.Priority.total c.args.self.now.rule_set.priority; transitive = g.met.P.Priority.transitive c.args.self.now.rule_set.priority; between = g.met.R.PriceRule.between c.args.self.now.rule_set.rule })
     (rw c.from.ensures at c.match_incoming-turned.ensures.matched) (grind (arith, common_steps))
