@@ -2,11 +2,10 @@ ghost use Rattle.std.specs.Prelude.{◌≡◌, ◌≤◌, true, [], length, take
 ghost use Rattle.book.specs.Matches.{ComesNew, Matched};
 ghost use Rattle.law.specs.Memories.{account, lawful_table, laid_out};
 ghost use Rattle.law.specs.Accounts.{new_intent};
-ghost use Rattle.law.specs.Checks.{checked, list_checks};
-ghost use Rattle.law.specs.Outcomes.{enter_answer, cancel_answer, order_answer, unless_refused, after};
+ghost use Rattle.law.specs.Outcomes.{enter_answer, cancel_answer, order_answer, after};
 ghost use Rattle.law.specs.Turns.{LawfulQuotes, OnlyTurn, fills};
 ghost use Rattle.law.specs.declared.calls.Call.TheVariants.{Enter as enter_call, Cancel as cancel_call, Order as order_call};
-ghost use Rattle.ledger.specs.Ledgers.{new_ledger, memory, ledger_of, with_listed};
+ghost use Rattle.ledger.specs.Ledgers.{new_ledger, memory, ledger_of, list_answer, list_after};
 ghost use Rattle.rules.specs.Incoming.{intent_incoming, order_incoming};
 
 use crate::among::{close_among, rest_behind, turn_among};
@@ -50,8 +49,8 @@ impl<P: Priority, R: PriceRule> Book<P, R> {
 
     /// Lists a security: it is open then and has no quote. It needs neither table nor page.
     pub fn list(&mut self, security: u32) -> Result<(), Refusal>
-        ensures answer { result ≡ checked (list_checks (memory self.old.ledger [] []) security) tt }
-        ensures book { self.new ≡ record self.old { ledger = unless_refused (list_checks (memory self.old.ledger [] []) security) (with_listed self.old.ledger security) self.old.ledger } }
+        ensures answer { result ≡ list_answer self.old.ledger security }
+        ensures book { self.new ≡ record self.old { ledger = list_after self.old.ledger security } }
     {
         self.ledger.list(security)
     }

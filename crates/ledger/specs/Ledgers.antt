@@ -1,10 +1,13 @@
 -- The ledger's part of the memory that a call reads and writes.
-use Rattle.std.specs.Prelude.{ℕ, List, slice_set}
+use Rattle.std.specs.Prelude.{ℕ, List, [], Result, slice_set}
 use Rattle.rules.specs.declared.intents.Intent.{Intent}
 use Rattle.rules.specs.declared.phases.Phase.TheVariants.{PreOpen}
+use Rattle.rules.specs.declared.refusals.Refusal.{Refusal}
 use Rattle.rules.specs.declared.slips.Slip.{Slip}
 use Rattle.rules.specs.Securities.{none_listed, just_listed}
+use Rattle.law.specs.Checks.{checked, list_checks}
 use Rattle.law.specs.Memories.{Memory}
+use Rattle.law.specs.Outcomes.{unless_refused}
 use Rattle.ledger.specs.declared.ledgers.Ledger.{Ledger}
 
 -- a new book's
@@ -20,3 +23,11 @@ ledger_of m = record { phase = m.phase; day = m.day; next = m.next; securities =
 
 abbrev pub with_listed : Ledger → ℕ → Ledger
 with_listed l s = record l { securities = slice_set l.securities s just_listed }
+
+-- what the call list answers: refused above 63, and where the security is listed already
+abbrev pub list_answer : Ledger → ℕ → Result (Unit {0}) Refusal
+list_answer l s = checked (list_checks (memory l [] []) s) tt
+
+-- and what it leaves: a refusal changes nothing
+abbrev pub list_after : Ledger → ℕ → Ledger
+list_after l s = unless_refused (list_checks (memory l [] []) s) (with_listed l s) l

@@ -1,7 +1,6 @@
 ghost use Rattle.std.specs.Prelude.{◌≡◌, [], ◌∷◌, slice_index_or};
-ghost use Rattle.law.specs.Checks.{checked, list_checks};
-ghost use Rattle.law.specs.Outcomes.{unless_refused};
-ghost use Rattle.ledger.specs.Ledgers.{new_ledger, memory, with_listed};
+ghost use Rattle.law.specs.Checks.{checked};
+ghost use Rattle.ledger.specs.Ledgers.{new_ledger, list_answer, list_after};
 ghost use Rattle.rules.specs.Ranges.{is_security};
 ghost use Rattle.rules.specs.Securities.{unlisted, in_force};
 ghost use Rattle.rules.specs.declared.refusals.Refusal.TheVariants.{Listing};
@@ -57,8 +56,8 @@ impl Ledger {
     /// Lists a security: it is open then and has no quote. Refused for a number above 63 and for a security that is
     /// listed already; nothing changes then.
     pub fn list(&mut self, security: u32) -> Result<(), Refusal>
-        ensures answer { result ≡ checked (list_checks (memory self.old [] []) security) tt }
-        ensures after { self.new ≡ unless_refused (list_checks (memory self.old [] []) security) (with_listed self.old security) self.old }
+        ensures answer { result ≡ list_answer self.old security }
+        ensures after { self.new ≡ list_after self.old security }
     {
         let place = place_to_list(security)?;
         self.securities[place].list()

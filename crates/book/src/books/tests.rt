@@ -97,18 +97,14 @@ fn house_then_large_then_time(rt: HostRuntime) -> Result<(), Fail> {
     let mut page = [Slip::BLANK; 8];
     let mut book = ready(rule_4_108(), &mut table);
     assert!(rt; enter_sells(&mut book, &mut table, &mut page).is_ok());
-    let first = book
-        .order(&mut table, &mut page, &market_buy(7, 9_000, false))
-        .map_err(|_| Fail::new("refused"))?;
+    let first = accepted(book.order(&mut table, &mut page, &market_buy(7, 9_000, false)))?;
     assert_eq!(rt; (first.residual, first.slips), (0, 4));
     assert_eq!(rt; page[0], filled(0, 4, 500, 2018));
     assert_eq!(rt; page[1], filled(0, 5, 6_000, 2018));
     assert_eq!(rt; page[2], filled(0, 2, 1_000, 2018));
     assert_eq!(rt; page[3], filled(0, 3, 1_500, 2018));
     // Number 3 has 3,500 left of 5,000, and stays large.
-    let second = book
-        .order(&mut table, &mut page, &market_buy(6, 4_000, false))
-        .map_err(|_| Fail::new("refused"))?;
+    let second = accepted(book.order(&mut table, &mut page, &market_buy(6, 4_000, false)))?;
     assert_eq!(rt; (second.residual, second.slips), (0, 2));
     assert_eq!(rt; page[0], filled(0, 3, 3_500, 2018));
     assert_eq!(rt; page[1], filled(0, 1, 500, 2018));
@@ -125,9 +121,7 @@ fn by_time_alone(rt: HostRuntime) -> Result<(), Fail> {
     let mut page = [Slip::BLANK; 8];
     let mut book = ready(Time, &mut table);
     assert!(rt; enter_sells(&mut book, &mut table, &mut page).is_ok());
-    let ordered = book
-        .order(&mut table, &mut page, &market_buy(7, 9_000, false))
-        .map_err(|_| Fail::new("refused"))?;
+    let ordered = accepted(book.order(&mut table, &mut page, &market_buy(7, 9_000, false)))?;
     assert_eq!(rt; (ordered.residual, ordered.slips), (0, 3));
     assert_eq!(rt; page[0], filled(0, 1, 4_999, 2018));
     assert_eq!(rt; page[1], filled(0, 2, 1_000, 2018));
@@ -143,9 +137,7 @@ fn who_came_first_decides_the_price(rt: HostRuntime) -> Result<(), Fail> {
     let sell = terms(9, 1, Side::Sell, 700, 1000);
     let mut book = ready(rule_4_108(), &mut table);
     assert!(rt; book.enter(&mut table, &mut page, &buy).is_ok());
-    let entered = book
-        .enter(&mut table, &mut page, &sell)
-        .map_err(|_| Fail::new("refused"))?;
+    let entered = accepted(book.enter(&mut table, &mut page, &sell))?;
     assert_eq!(rt;
         (entered.number, entered.resting, entered.slips),
         (2, 200, 1)
@@ -160,6 +152,11 @@ fn who_came_first_decides_the_price(rt: HostRuntime) -> Result<(), Fail> {
         (2, 700, 500)
     );
     Ok(())
+}
+
+/// The answer of a call that is not to be refused.
+fn accepted<T: Drop>(outcome: Result<T, Refusal>) -> Result<T, Fail> {
+    outcome.map_err(|_| Fail::new("refused"))
 }
 
 /// The number of a refusal.
@@ -202,9 +199,7 @@ fn a_jitney_order_meets_nobody(rt: HostRuntime) -> Result<(), Fail> {
     let mut page = [Slip::BLANK; 8];
     let mut book = ready(rule_4_108(), &mut table);
     assert!(rt; enter_sells(&mut book, &mut table, &mut page).is_ok());
-    let ordered = book
-        .order(&mut table, &mut page, &market_buy(7, 9_000, true))
-        .map_err(|_| Fail::new("refused"))?;
+    let ordered = accepted(book.order(&mut table, &mut page, &market_buy(7, 9_000, true)))?;
     assert_eq!(rt; (ordered.residual, ordered.slips), (9_000, 0));
     Ok(())
 }
