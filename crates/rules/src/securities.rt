@@ -18,8 +18,9 @@ pub enum State {
 /// One security as the book keeps it.
 #[derive(Clone, Copy)]
 pub struct Security {
-    /// None until it is listed.
-    pub state: Option<State>,
+    /// Whether somebody has listed it. Beside the state, and no `Option` of it: an unlisted record may hold any state too.
+    pub listed: bool,
+    pub state: State,
     /// None before the first quote and after one is withdrawn.
     pub quote: Option<Quote>,
 }
@@ -27,7 +28,8 @@ pub struct Security {
 impl Security {
     /// A security that nobody has listed yet.
     pub const UNLISTED: Security = Security {
-        state: None,
+        listed: false,
+        state: State::Open,
         quote: None,
     };
 
@@ -40,7 +42,8 @@ impl Security {
             return Err(Refusal::Listing);
         }
         *self = Security {
-            state: Some(State::Open),
+            listed: true,
+            state: State::Open,
             quote: None,
         };
         Ok(())
@@ -50,7 +53,7 @@ impl Security {
     pub fn is_listed(&self) -> bool
         ensures { result ≡ is_listed self.now }
     {
-        self.state.is_some()
+        self.listed
     }
 
     /// The quote that the security trades under now: none outside the regular phase, and none unless it is open.
@@ -58,7 +61,7 @@ impl Security {
         ensures { result ≡ in_force phase self.now }
     {
         match (phase, self.state) {
-            (Phase::Regular, Some(State::Open)) => self.quote,
+            (Phase::Regular, State::Open) => self.quote,
             _ => None,
         }
     }

@@ -33,7 +33,8 @@ fn ready<P: Priority>(priority: P, table: &mut [Intent]) -> Book<P, StepRule> {
     let mut book = Book::open(priority, STEP, table);
     book.ledger.phase = Phase::Regular;
     book.ledger.securities[0] = Security {
-        state: Some(State::Open),
+        listed: true,
+        state: State::Open,
         quote: Some(WIDE),
     };
     book
