@@ -1,14 +1,16 @@
-//! A price rule and a tier that are not the engine's own, each in one file, as somebody else would add them; and what holds
-//! of them, and of every other, by the laws of the traits.
+//! A price rule, a tier and the members of a tier that are not the engine's own, each in one file, as somebody else would add
+//! them; and what holds of them, and of every other, by the laws of the traits.
 #![tactic(auto)]
 
 pub mod dealer_tier;
+pub mod dealers;
 pub mod laws;
 pub mod offer_rule;
 
 #[cfg(test)]
 mod tests {
     use crate::dealer_tier::*;
+    use crate::dealers::*;
     use crate::laws::*;
     use crate::offer_rule::*;
     use rules::intents::{Side, Standing};
@@ -18,6 +20,7 @@ mod tests {
     use rules::priorities::Priority;
     use rules::priorities::house_tier::HouseTier;
     use rules::priorities::large_tier::{Large, LargeTier};
+    use rules::priorities::tier::Tier;
     use rules::priorities::time::Time;
     use rules::worked_examples::WIDE;
 
@@ -45,15 +48,23 @@ mod tests {
         assert!(rt; is_within_quote(&over_step, &WIDE, Side::Buy));
     }
 
+    const LARGE_THEN_TIME: LargeTier<Time> = LargeTier {
+        members: Large { threshold: 5000 },
+        below: Time,
+    };
+
     #[test]
     fn own_tier_between_the_engines(rt: HostRuntime) {
         let pile = HouseTier {
             below: DealerTier {
+                dealer: 5,
+                below: LARGE_THEN_TIME,
+            },
+        };
+        let by_members = HouseTier {
+            below: Tier {
                 members: Dealer { dealer: 5 },
-                below: LargeTier {
-                    members: Large { threshold: 5000 },
-                    below: Time,
-                },
+                below: LARGE_THEN_TIME,
             },
         };
         // foremost first, for incoming subscriber 7: own by group and time, dealer 5, then large, then the rest by time
@@ -68,6 +79,7 @@ mod tests {
         for (i, a) in queue.iter().enumerate() {
             for (j, b) in queue.iter().enumerate() {
                 assert_eq!(rt; pile.is_ahead(7, a, b), i < j, "the queue's order");
+                assert_eq!(rt; by_members.is_ahead(7, a, b), i < j, "the same by members");
                 assert!(rt; is_decided(&pile, 7, a, b));
             }
         }
