@@ -1,5 +1,5 @@
 ghost use Rattle.std.specs.Prelude.{◌≡◌};
-ghost use Rattle.rules.specs.Eligibility.{arrived_before, within_limit, within_any_limit, eligible};
+ghost use Rattle.rules.specs.Eligibility.{opposite, arrived_before, within_limit, within_any_limit, eligible};
 
 use crate::incoming::Incoming;
 use crate::intents::{Intent, Side};
@@ -34,13 +34,23 @@ impl Seeker {
     {
         let incoming = &self.incoming;
         intent.security == incoming.security
-            && incoming.side != intent.side
+            && are_opposite(incoming.side, intent.side)
             && has_arrived_before(intent.number, incoming.number)
             && is_within_limit(intent.side, intent.limit, self.price)
             && is_within_any_limit(incoming.side, incoming.limit, self.price)
             && self.quote.reaches(intent.side, &intent.minimums)
             && self.quote.reaches(incoming.side, &incoming.minimums)
             && !incoming.jitney
+    }
+}
+
+/// Whether one is a buyer and the other a seller. A `match`, since the derived `!=` costs a turn of sells half as much again.
+fn are_opposite(a: Side, b: Side) -> bool
+    ensures { result ≡ opposite a b }
+{
+    match (a, b) {
+        (Side::Buy, Side::Sell) | (Side::Sell, Side::Buy) => true,
+        (Side::Buy, Side::Buy) | (Side::Sell, Side::Sell) => false,
     }
 }
 
