@@ -30,9 +30,10 @@ impl Session {
         ensures table { IfOk result (λ s. s.table.items ≡ replicate places blank_intent) }
         ensures page { IfOk result (λ s. s.page.items ≡ replicate places blank_slip) }
     {
-        let mut table = vec![in heap; Intent::BLANK; places]?;
+        let table = vec![in heap; Intent::BLANK; places]?;
         let page = vec![in heap; Slip::BLANK; places]?;
-        let book = Book::open(rule_4_108(), StepRule { ticks: 1 }, &mut table);
+        // the table is made blank: lent here, it would be blanked once more
+        let book = Book::open(rule_4_108(), StepRule { ticks: 1 }, &mut []);
         Ok(Session { book, table, page })
     }
 
