@@ -13,7 +13,7 @@ use Rattle.law.proofs.Lists.{each_join, each_filter, each_passes, each_from_plac
 use Rattle.law.proofs.Queue.{each_queue}
 
 module _ (ahead : Standing → Standing → Bool) where
-  place_first : (p : Intent) (qs : List Intent) → AllByRecursion (λ (q : Intent). ahead (standing p) (standing q) ≡ true) qs → place ahead p qs ≡ p ∷ qs
+  pub place_first : (p : Intent) (qs : List Intent) → AllByRecursion (λ (q : Intent). ahead (standing p) (standing q) ≡ true) qs → place ahead p qs ≡ p ∷ qs
   place_first p [] h = refl
   place_first p (q ∷ qs) h = grind arith
 

@@ -54,7 +54,7 @@ lawful_left last next ps h = each_weaker _ _ in_range_left ps (lawful_ranges las
 -- BLANKS
 
 -- what passes the test is the blank intent
-blank_is : (p : Intent) → is_blank p ≡ true → p ≡ blank_intent
+pub blank_is : (p : Intent) → is_blank p ≡ true → p ≡ blank_intent
 blank_is p h = grind (arith, nat_tests)
 
 -- places that all pass it are so many blanks

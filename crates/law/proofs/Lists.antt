@@ -1,12 +1,18 @@
 -- Lists: what holds of `AllByRecursion`, `Pairwise`, `filter` and `total`, of any element type.
 use Rattle.std.proofs.Common.{◌≡◌, ℕ, zero, suc, ◌+◌, ◌<◌, ◌≤◌, Bool, true, false, cond, List, [], ◌∷◌, length, get_or, refl, ap₂, arith}
 use Rattle.std.specs.List.{filter, AllByRecursion}
+use Rattle.std.proofs.lemmas.Bool.{cond_both}
 use Rattle.std.proofs.lemmas.List.Elements.{All-from_recursion, recursion_from_All, All-filter, All-get_or, All-from_get_or, filter_passes}
 use Rattle.std.proofs.lemmas.List.Sums.{length-filter, count_by-le-length}
 use Rattle.law.specs.Lists.{total, Pairwise}
 
 module _ {A : Type 0} where
   -- EACH
+
+  -- what holds of anything holds of each
+  pub each_all : (P : A → Type 0) → ((x : A) → P x) → (xs : List A) → AllByRecursion P xs
+  each_all P f [] = tt
+  each_all P f (x ∷ xs) = (f x, each_all P f xs)
 
   pub each_weaker : (P Q : A → Type 0) → ((x : A) → P x → Q x) → (xs : List A) → AllByRecursion P xs → AllByRecursion Q xs
   each_weaker P Q f [] h = tt
@@ -29,6 +35,13 @@ module _ {A : Type 0} where
   places_from_each d P xs h k l = All-get_or P xs k d l (All-from_recursion P xs h)
 
   -- FILTER
+
+  -- the elements that a test keeps, with the test's answer
+  pub each_kept : (P Q : A → Type 0) (t : A → Bool) → ((x : A) → t x ≡ true → P x → Q x) → (xs : List A) → AllByRecursion P xs → AllByRecursion Q (filter t xs)
+  each_kept P Q t f [] h = tt
+  each_kept P Q t f (x ∷ xs) h =
+      let rest = each_kept P Q t f xs h.1 in
+      cond_both (t x) (x ∷ filter t xs) (filter t xs) (AllByRecursion Q) (λ e. (f x e h.0, rest)) (λ _. rest)
 
   pub each_filter : (P : A → Type 0) (t : A → Bool) (xs : List A) → AllByRecursion P xs → AllByRecursion P (filter t xs)
   each_filter P t xs h = recursion_from_All P (filter t xs) (All-filter t P xs (All-from_recursion P xs h))
@@ -81,6 +94,10 @@ module _ {A : Type 0} where
   pub total_least : (f g : A → ℕ) (xs : List A) → AllByRecursion (λ (x : A). f x ≤ g x) xs → total f xs ≤ total g xs
   total_least f g [] h = omega arith
   total_least f g (x ∷ xs) h = omega (arith, total_least f g xs h.1)
+
+  pub total_none : (f : A → ℕ) (xs : List A) → AllByRecursion (λ (x : A). f x ≡ 0) xs → total f xs ≡ 0
+  total_none f [] h = refl
+  total_none f (x ∷ xs) h = omega (arith, h.0, total_none f xs h.1)
 
   pub total_filter : (f : A → ℕ) (t : A → Bool) (xs : List A) → total f (filter t xs) ≡ total (λ (x : A). cond (t x) (f x) 0) xs
   total_filter f t [] = refl

@@ -1,5 +1,5 @@
 -- Intents by their numbers: what `find` gives, where numbers differ or rise.
-use Rattle.std.proofs.Common.{◌≡◌, ℕ, ◌<◌, List, [], ◌∷◌, Some, sym, ap, ◌∙◌, arith}
+use Rattle.std.proofs.Common.{◌≡◌, ℕ, ◌<◌, List, [], ◌∷◌, Some, None, Option, sym, ap, ◌∙◌, arith}
 use Rattle.std.specs.List.{AllByRecursion}
 use Rattle.std.proofs.lemmas.Bool.Decides.{nat_tests}
 use Rattle.rules.specs.declared.intents.Intent.{Intent}
@@ -18,6 +18,9 @@ Rising ps = Pairwise (λ (p q : Intent). p.number < q.number) ps
 pub rising_apart : (ps : List Intent) → Rising ps → Pairwise Apart ps
 rising_apart ps r = pairwise_weaker _ _ (λ p q h e. omega arith) ps r
 
+pub none_some : {A : Type 0} (p : A) → ◌≡◌ {A = Option A} None (Some p) → ⊥
+none_some p e = let z : ◌≡◌ {A = ℕ} 0 1 = cc in omega arith
+
 -- what is found has the number that it was sought by
 pub find_number : (n : ℕ) (ps : List Intent) (p : Intent) → find n ps ≡ Some p → p.number ≡ n
 find_number n [] p e = cc
@@ -27,6 +30,13 @@ find_number n (q ∷ qs) p e = grind (arith, nat_tests, find_number n qs p)
 pub each_find : (P : Intent → Type 0) (n : ℕ) (ps : List Intent) (p : Intent) → AllByRecursion P ps → find n ps ≡ Some p → P p
 each_find P n [] p h e = cc
 each_find P n (q ∷ qs) p h e = grind (arith, nat_tests, each_find P n qs p h.1)
+
+-- where it is found: at the first with the number, or behind it
+pub find_later : (n : ℕ) (q : Intent) (qs : List Intent) → (q.number ≡ n → ⊥) → find n (q ∷ qs) ≡ find n qs
+find_later n q qs h = grind (arith, nat_tests)
+
+pub find_first : (n : ℕ) (q : Intent) (qs : List Intent) → q.number ≡ n → find n (q ∷ qs) ≡ Some q
+find_first n q qs e = grind (arith, nat_tests)
 
 -- each intent is the one under its number
 pub find_each : (ps : List Intent) → Pairwise Apart ps → AllByRecursion (λ (p : Intent). find p.number ps ≡ Some p) ps
