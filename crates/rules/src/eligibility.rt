@@ -44,7 +44,8 @@ impl Seeker {
     }
 }
 
-/// Whether one is a buyer and the other a seller. A `match`, since the derived `!=` costs a turn of sells half as much again.
+/// Whether one is a buyer and the other a seller. By a `match`: with the derived `!=` each question for an incoming sell took up
+/// to half as long again.
 fn are_opposite(a: Side, b: Side) -> bool
     ensures { result ≡ opposite a b }
 {
